@@ -1,0 +1,5 @@
+mod Every
+mod Labelled
+mod Refused
+mod Sets
+mod Tabled

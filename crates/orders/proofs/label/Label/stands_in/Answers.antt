@@ -1,0 +1,22 @@
+use mathlib.Core.Path.{sym, _∙_}
+use Rattle.std.proofs.shelf.Lists.{at-drop-all}
+use Rattle.orders.specs.Labels.{holds}
+use Rattle.orders.proofs.Labelled.{holds-more}
+use Rattle.orders.proofs.label.Label.stands_in.Needs as need
+
+pub returns-then-equals : need.returns-then-equals
+returns-then-equals c =
+    let more = holds-more (c .args .labels .now) (c .args .self) (c .loop-label .label-index) (c .loop-label-test .taken) in
+    let found = c .if-equals .ensures tt in
+    sym (sym (c .loop-label .inv) ∙ more ∙ rw (← found))
+
+pub loop-label-again : need.loop-label-again
+loop-label-again c =
+    let more = holds-more (c .args .labels .now) (c .args .self) (c .loop-label .label-index) (c .loop-label-test .taken) in
+    let other = c .if-equals .ensures tt in
+    rw (← other) at (sym more ∙ c .loop-label .inv)
+
+pub returns : need.returns
+returns c =
+    let none = at-drop-all (λ ys. holds ys (c .args .self)) (c .args .labels .now) (c .loop-label .label-index) (c .loop-label-test .left) in
+    sym none ∙ c .loop-label .inv
