@@ -10,13 +10,26 @@ use lib.Dec.{eqb, leb, ltb}
 use lib.ListN.{length, getD, set, take, drop}
 use Rattle.std.specs.Orderings.{Decides}
 use Rattle.std.proofs.shelf.Lists.{length-set, length-take-le, getD-take, take-more-set, at-drop-more}
-use Rattle.std.proofs.shelf.Tests.{and-parts, and-from, eqb-true, eq-eqb, leb-true, le-leb, ltb-true, lt-ltb, or-right, or-left, or-parts, or-from, not-true, not-from-false, both-ways, cases-bool}
+use Rattle.std.proofs.shelf.Maps.{nth-getD, nth-past}
+use Rattle.std.proofs.shelf.Tests.{and-parts, and-from, eqb-true, eq-eqb, leb-true, le-leb, ltb-true, lt-ltb, or-right, or-left, or-parts, or-from, not-true, not-from-false, both-ways, cases-bool, cases-lt, false≢true}
 use Rattle.std.proofs.shelf.Ways.{tells}
+use Rattle.std.specs.shelf.Maps.{nth}
+use Rattle.std.specs.declared.option.Option.{Option}
 use Rattle.std.specs.declared.option.Option.the-variants.{Some, None}
 use Rattle.orders.specs.declared.label.Label.{Label}
-use Rattle.orders.specs.Labels.{includes, covers, Covers, equal-labels, holds, plain, distinct, label-refusal, walled}
+use Rattle.orders.specs.Labels.{includes, covers, Covers, equal-labels, holds, distinct, label-refusal, covers-if, walled}
 use Rattle.orders.specs.Orders.{PartialOrder}
 use Rattle.orders.proofs.Sets.{each-wall, includes-by-walls}
+
+-- a label of rank 0 with no wall
+abbrev pub plain : Label
+plain = record { rank = 0; walls = 0 }
+
+none-some : {x : Label} → None ≡ Some x → ⊥
+none-some h = let z : _≡_ {A = ℕ} 0 1 = cc in omega arith
+
+same-some : {x y : Label} → Some x ≡ Some y → x ≡ y
+same-some h = cc
 
 pub covers-wall-by-wall : (a b : Label) → Decides (covers a b) (Covers a b)
 covers-wall-by-wall a b = (
@@ -57,15 +70,15 @@ holds-push (y ∷ ys) l x h k =
     let p = or-parts (equal-labels y x) (holds ys x) h in
     or-from (equal-labels y x) (holds (ys ++ l ∷ []) x) (p .0) (holds-push ys l x (p .1) k)
 
-holds-at : (xs : List Label) (x : Label) (i : ℕ) → i < length xs → equal-labels (getD xs i plain) x ≡ true → holds xs x ≡ true
-holds-at [] x i h k = absurd (omega arith)
-holds-at (y ∷ ys) x zero h k = or-left (equal-labels y x) (holds ys x) k
-holds-at (y ∷ ys) x (suc i) h k = or-right (equal-labels y x) (holds ys x) (holds-at ys x i (omega arith) k)
+holds-at : (xs : List Label) (x y : Label) (i : ℕ) → nth xs i ≡ Some x → equal-labels x y ≡ true → holds xs y ≡ true
+holds-at [] x y i h k = absurd (none-some h)
+holds-at (z ∷ zs) x y zero h k = or-left (equal-labels z y) (holds zs y) (rw (same-some h) k)
+holds-at (z ∷ zs) x y (suc i) h k = or-right (equal-labels z y) (holds zs y) (holds-at zs x y i h k)
 
 -- a step of a search through the labels
-pub holds-more : (xs : List Label) (l : Label) (i : ℕ) → i < length xs
-    → holds (drop i xs) l ≡ (equal-labels (getD xs i plain) l || holds (drop (i + 1) xs) l)
-holds-more xs l i h = at-drop-more (λ ys. holds ys l) xs i plain h
+pub holds-more : (xs : List Label) (l d : Label) (i : ℕ) → i < length xs
+    → holds (drop i xs) l ≡ (equal-labels (getD xs i d) l || holds (drop (i + 1) xs) l)
+holds-more xs l d i h = at-drop-more (λ ys. holds ys l) xs i d h
 
 -- one label more that is not there yet
 pub distinct-push : (xs : List Label) (l : Label) → distinct xs ≡ true → holds xs l ≡ false → distinct (xs ++ l ∷ []) ≡ true
@@ -80,61 +93,78 @@ distinct-push (y ∷ ys) l d h =
     (distinct-push ys l (p .1) (q .1))
 
 -- equal labels stand at one place
-distinct-place : (xs : List Label) → distinct xs ≡ true → (i j : ℕ) → i < length xs → j < length xs
-    → equal-labels (getD xs i plain) (getD xs j plain) ≡ true → i ≡ j
-distinct-place [] d i j hi hj e = absurd (omega arith)
-distinct-place (y ∷ ys) d zero zero hi hj e = refl
-distinct-place (y ∷ ys) d zero (suc j) hi hj e =
-    let p = and-parts (not (holds ys y)) (distinct ys) d in
-    absurd (both-ways (holds ys y) (not-true (holds ys y) (p .0)) (holds-at ys y j (omega arith) (equal-flip y (getD ys j plain) e)))
-distinct-place (y ∷ ys) d (suc i) zero hi hj e =
-    let p = and-parts (not (holds ys y)) (distinct ys) d in
-    absurd (both-ways (holds ys y) (not-true (holds ys y) (p .0)) (holds-at ys y i (omega arith) e))
-distinct-place (y ∷ ys) d (suc i) (suc j) hi hj e =
-    let p = and-parts (not (holds ys y)) (distinct ys) d in
-    ap suc (distinct-place ys (p .1) i j (omega arith) (omega arith) e)
+distinct-place : (xs : List Label) → distinct xs ≡ true → (i j : ℕ) (x y : Label) → nth xs i ≡ Some x → nth xs j ≡ Some y
+    → equal-labels x y ≡ true → i ≡ j
+distinct-place [] d i j x y hi hj e = absurd (none-some hi)
+distinct-place (z ∷ zs) d zero zero x y hi hj e = refl
+distinct-place (z ∷ zs) d zero (suc j) x y hi hj e =
+    let p = and-parts (not (holds zs z)) (distinct zs) d in
+    absurd (both-ways (holds zs z) (not-true (holds zs z) (p .0)) (holds-at zs y z j hj (rw (same-some hi) (equal-flip x y e))))
+distinct-place (z ∷ zs) d (suc i) zero x y hi hj e =
+    let p = and-parts (not (holds zs z)) (distinct zs) d in
+    absurd (both-ways (holds zs z) (not-true (holds zs z) (p .0)) (holds-at zs x z i hi (rw (same-some hj) e)))
+distinct-place (z ∷ zs) d (suc i) (suc j) x y hi hj e =
+    let p = and-parts (not (holds zs z)) (distinct zs) d in
+    ap suc (distinct-place zs (p .1) i j x y hi hj e)
 
 -- what it says that a dominates b
 record Dominates (ls : List Label) (a b : ℕ) : Type 0 where
-  upper : a < length ls
-  lower : b < length ls
-  label : covers (getD ls a plain) (getD ls b plain) ≡ true
+  upper : Label
+  lower : Label
+  upper-is : nth ls a ≡ Some upper
+  lower-is : nth ls b ≡ Some lower
+  covered : covers upper lower ≡ true
 
 dominates-parts : (ls : List Label) (a b : ℕ) → walled ls .dominates a b ≡ true → Dominates ls a b
-dominates-parts ls a b h =
-    let c : Bool = covers (getD ls a plain) (getD ls b plain) in
-    let p = and-parts (ltb a (length ls)) (ltb b (length ls) && c) h in
-    let q = and-parts (ltb b (length ls)) c (p .1) in
-    record { upper = ltb-true a (length ls) (p .0); lower = ltb-true b (length ls) (q .0); label = q .1 }
+dominates-parts ls a b h = by (nth ls a) (nth ls b) refl refl h
+  where
+    by : (x y : Option Label) → nth ls a ≡ x → nth ls b ≡ y → covers-if x y ≡ true → Dominates ls a b
+    by (Some x) (Some y) p q h = record { upper = x; lower = y; upper-is = p; lower-is = q; covered = h }
+    by (Some x) None p q h = absurd (false≢true h)
+    by None y p q h = absurd (false≢true h)
 
 dominates-from : (ls : List Label) (a b : ℕ) → Dominates ls a b → walled ls .dominates a b ≡ true
-dominates-from ls a b d =
-    let c : Bool = covers (getD ls a plain) (getD ls b plain) in
-    and-from (ltb a (length ls)) (ltb b (length ls) && c) (lt-ltb a (length ls) (d .upper))
-    (and-from (ltb b (length ls)) c (lt-ltb b (length ls) (d .lower)) (d .label))
+dominates-from ls a b d = rw (d .upper-is, d .lower-is) (d .covered)
+
+nth-within : (ls : List Label) (i : ℕ) (x : Label) → nth ls i ≡ Some x → i < length ls
+nth-within ls i x h = elim (cases-lt i (length ls)) [ inl l ↦ l | inr l ↦ absurd (none-some (sym (nth-past ls i l) ∙ h)) ]
 
 pub walled-lawful : (ls : List Label) → 1 ≤ length ls → length ls ≤ 16 → distinct ls ≡ true → PartialOrder (walled ls)
 walled-lawful ls some few d = record {
   some = some;
   few = few;
-  itself = λ a h. dominates-from ls a a record { upper = h; lower = h; label = covers-itself (getD ls a plain) };
+  itself = λ a h. let x : Label = getD ls a plain in let e = nth-getD ls a plain h in
+    dominates-from ls a a record { upper = x; lower = x; upper-is = e; lower-is = e; covered = covers-itself x };
   through = λ a b c h k.
-      let ab = dominates-parts ls a b h in
-      let bc = dominates-parts ls b c k in
-      dominates-from ls a c record { upper = ab .upper; lower = bc .lower; label = covers-through (getD ls a plain) (getD ls b plain) (getD ls c plain) (ab .label) (bc .label) };
+    let ab = dominates-parts ls a b h in
+    let bc = dominates-parts ls b c k in
+    let joint = same-some (sym (ab .lower-is) ∙ bc .upper-is) in
+    dominates-from ls a c record {
+      upper = ab .upper;
+      lower = bc .lower;
+      upper-is = ab .upper-is;
+      lower-is = bc .lower-is;
+      covered = covers-through (ab .upper) (ab .lower) (bc .lower) (ab .covered) (rw joint (bc .covered));
+    };
   same = λ a b h k.
-      let ab = dominates-parts ls a b h in
-      let ba = dominates-parts ls b a k in
-      distinct-place ls d a b (ab .upper) (ab .lower) (covers-same (getD ls a plain) (getD ls b plain) (ab .label) (ba .label));
-  above = λ a b h. dominates-parts ls a b h .upper;
-  below = λ a b h. dominates-parts ls a b h .lower;
+    let ab = dominates-parts ls a b h in
+    let ba = dominates-parts ls b a k in
+    let lower = same-some (sym (ab .lower-is) ∙ ba .upper-is) in
+    let upper = same-some (sym (ab .upper-is) ∙ ba .lower-is) in
+    distinct-place ls d a b (ab .upper) (ab .lower) (ab .upper-is) (ab .lower-is)
+      (covers-same (ab .upper) (ab .lower) (ab .covered) (rw (lower, upper) (ba .covered)));
+  above = λ a b h. let ab = dominates-parts ls a b h in nth-within ls a (ab .upper) (ab .upper-is);
+  below = λ a b h. let ab = dominates-parts ls a b h in nth-within ls b (ab .lower) (ab .lower-is);
 }
 
--- the order of the first n labels of a longer list
-pub walled-front : (n : ℕ) (ls : List Label) (a b : ℕ) → n ≤ length ls → a < n → b < n
-    → walled (take n ls) .dominates a b ≡ covers (getD ls a plain) (getD ls b plain)
-walled-front n ls a b fits upper lower =
-    rw (length-take-le n ls fits, lt-ltb a n upper, lt-ltb b n lower, getD-take n ls a plain upper, getD-take n ls b plain lower)
+-- the label at a place of the first n of a longer list
+pub front-label : (n : ℕ) (ls : List Label) (a : ℕ) (d : Label) → n ≤ length ls → a < n → nth (take n ls) a ≡ Some (getD ls a d)
+front-label n ls a d fits h =
+    let inside : a < length (take n ls) = omega (arith, length-take-le n ls fits) in
+    nth-getD (take n ls) a d inside ∙ ap Some (getD-take n ls a d h)
+
+pub no-label : (n : ℕ) (ls : List Label) (a : ℕ) → n ≤ length ls → n ≤ a → nth (take n ls) a ≡ None
+no-label n ls a fits h = nth-past (take n ls) a (omega (arith, length-take-le n ls fits))
 
 -- a label that is not refused, stored behind the first n of 16 places
 pub record Stored (n : ℕ) (ls : List Label) (l : Label) : Type 0 where

@@ -5,7 +5,8 @@ use mathlib.Core.List.{List, [], _∷_, _++_}
 use Prim.Native.Nat.{ℕ, _≤_}
 use lib.Bits.{bitAnd}
 use lib.Dec.{eqb, leb, ltb}
-use lib.ListN.{length, getD}
+use lib.ListN.{length}
+use Rattle.std.specs.shelf.Maps.{nth}
 use Rattle.std.specs.declared.option.Option.{Option}
 use Rattle.std.specs.declared.option.Option.the-variants.{Some, None}
 use Rattle.orders.specs.declared.label.Label.{Label}
@@ -36,10 +37,6 @@ abbrev pub holds : List Label → Label → Bool
 holds [] l = false
 holds (x ∷ xs) l = equal-labels x l || holds xs l
 
--- a label of rank 0 with no wall
-abbrev pub plain : Label
-plain = record { rank = 0; walls = 0 }
-
 -- no two of the labels are equal
 abbrev pub distinct : List Label → Bool
 distinct [] = true
@@ -53,9 +50,12 @@ label-refusal ls l = cond (ltb (length ls) 16) (cond (holds ls l) (Some LawBroke
 abbrev pub with-label : List Label → Label → List Label
 with-label ls l = changed (label-refusal ls l) ls (ls ++ l ∷ [])
 
+-- the same where there may be no label: nothing covers it, and it covers nothing
+abbrev pub covers-if : Option Label → Option Label → Bool
+covers-if (Some a) (Some b) = covers a b
+covers-if (Some a) None = false
+covers-if None b = false
+
 -- level k carries the label at place k, and a dominates b when a's label covers b's
 abbrev pub walled : List Label → Order
-walled ls = record {
-  levels = length ls;
-  dominates = λ a b. ltb a (length ls) && (ltb b (length ls) && covers (getD ls a plain) (getD ls b plain));
-}
+walled ls = record { levels = length ls; dominates = λ a b. covers-if (nth ls a) (nth ls b) }

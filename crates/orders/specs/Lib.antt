@@ -1,4 +1,5 @@
 pub mod Bits
+pub mod Cases
 pub mod Chains
 pub mod Labels
 pub mod Orders

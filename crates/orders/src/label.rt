@@ -3,7 +3,7 @@ ghost use mathlib.Core.Path.{_≡_};
 ghost use Rattle.std.specs.Orderings.{Decides};
 ghost use Rattle.orders.specs.Labels.{includes, covers, Covers, equal-labels, holds};
 
-#[derive(Clone, Copy, PartialEq, Eq, Debug)]
+#[derive(Clone, Copy)]
 pub struct Label {
     pub rank: u8,
     pub walls: u16,
@@ -18,22 +18,24 @@ impl Label {
         self.rank >= other.rank && includes(self.walls, other.walls)
     }
 
-    fn equals(self, other: Label) -> bool
-        ensures { λ r. ⌜ r ≡ equal-labels self other ⌝ }
-    {
-        self.rank == other.rank && self.walls == other.walls
-    }
-
     // Whether one of `labels` equals this one.
     pub(crate) fn stands_in(self, labels: &[Label]) -> bool
         ensures { λ r. ⌜ r ≡ holds (now (labels .entry)) self ⌝ }
     {
         for label in labels {
-            if label.equals(self) {
+            if *label == self {
                 return true;
             }
         }
         false
+    }
+}
+
+pub impl PartialEq<Label> for Label as LabelPartialEq {
+    ghost equals = { λ a b r. r ≡ equal-labels a b };
+
+    fn eq(&self, other: &Label) -> bool {
+        self.rank == other.rank && self.walls == other.walls
     }
 }
 

@@ -2,9 +2,10 @@
 ghost use Prim.Native.Nat.{ℕ};
 ghost use lib.ListN.{length};
 ghost use mathlib.Core.Bool.{true};
-ghost use mathlib.Core.List.{[]};
+ghost use mathlib.Core.List.{[], _∷_, _++_};
 ghost use mathlib.Core.Path.{_≡_};
 ghost use Rattle.std.specs.Results.{isErr};
+ghost use Rattle.std.specs.declared.option.Option.the-variants.{None};
 ghost use Rattle.orders.specs.Labels.{label-refusal, with-label, walled};
 ghost use Rattle.orders.specs.Refusals.{count-refusal, unless, meant};
 ghost use Rattle.orders.specs.Walled.{labels-of, walls-order};
@@ -31,23 +32,34 @@ impl WallsBuilder {
         ensures after { λ _. ⌜ labels-of (now (self .exit)) ≡ with-label (labels-of (now (self .entry))) label ⌝ }
         ensures refused { λ r. ⌜ (isErr r ≡ true → now (self .exit) ≡ now (self .entry)) ⌝ }
     {
-        self.check(label)?;
-        self.labels[self.count as usize] = label;
-        self.count += 1;
-        Ok(())
+        match self.refusal(label) {
+            Some(refusal) => Err(refusal),
+            None => {
+                self.push(label);
+                Ok(())
+            }
+        }
     }
 
-    fn check(&self, label: Label) -> Result<(), OrderRefusal>
-        ensures { λ r. ⌜ r ≡ unless (label-refusal (labels-of (now (self .entry))) label) tt ⌝ }
+    fn refusal(&self, label: Label) -> Option<OrderRefusal>
+        ensures { λ r. ⌜ r ≡ label-refusal (labels-of (now (self .entry))) label ⌝ }
     {
         let count = self.count as usize;
         if count >= 16 {
-            return Err(OrderRefusal::LevelCount);
+            return Some(OrderRefusal::LevelCount);
         }
         if label.stands_in(&self.labels[0..count]) {
-            return Err(OrderRefusal::LawBroken);
+            return Some(OrderRefusal::LawBroken);
         }
-        Ok(())
+        None
+    }
+
+    fn push(&mut self, label: Label)
+        requires { ⌜ label-refusal (labels-of (now self)) label ≡ None ⌝ }
+        ensures { λ _. ⌜ labels-of (now (self .exit)) ≡ labels-of (now (self .entry)) ++ label ∷ [] ⌝ }
+    {
+        self.labels[self.count as usize] = label;
+        self.count += 1;
     }
 
     // The order of the labels taken so far. The builder can go on.

@@ -1,7 +1,23 @@
 // Walls as a level order.
-ghost use Rattle.orders.specs.Walled.{walls-order};
+ghost use mathlib.Core.Path.{_≡_};
+ghost use Rattle.std.specs.shelf.Maps.{nth};
+ghost use Rattle.orders.specs.Walled.{labels-of, walls-order};
+use crate::label::Label;
 use crate::order::LevelOrder;
 use crate::walls::Walls;
+use crate::walls::WallsBuilder;
+
+impl WallsBuilder {
+    // The label of a level, if there is such a level.
+    fn label(&self, level: u8) -> Option<Label>
+        ensures { λ r. ⌜ r ≡ nth (labels-of (now (self .entry))) level ⌝ }
+    {
+        if level >= self.count {
+            return None;
+        }
+        Some(self.labels[level as usize])
+    }
+}
 
 pub impl LevelOrder for Walls as WallsOrder {
     ghost meaning = { walls-order };
@@ -11,11 +27,9 @@ pub impl LevelOrder for Walls as WallsOrder {
     }
 
     fn dominates(&self, a: u8, b: u8) -> bool {
-        if a >= self.built.count || b >= self.built.count {
-            return false;
+        match (self.built.label(a), self.built.label(b)) {
+            (Some(upper), Some(lower)) => upper.covers(lower),
+            _ => false,
         }
-        self.built
-            .labels[a as usize]
-            .covers(self.built.labels[b as usize])
     }
 }

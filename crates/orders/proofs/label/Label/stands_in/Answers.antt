@@ -1,19 +1,19 @@
 use mathlib.Core.Path.{sym, _∙_}
 use Rattle.std.proofs.shelf.Lists.{at-drop-all}
 use Rattle.orders.specs.Labels.{holds}
-use Rattle.orders.proofs.Labelled.{holds-more}
+use Rattle.orders.proofs.Labelled.{plain, holds-more}
 use Rattle.orders.proofs.label.Label.stands_in.Needs as need
 
-pub returns-then-equals : need.returns-then-equals
-returns-then-equals c =
-    let more = holds-more (c .args .labels .now) (c .args .self) (c .loop-label .label-index) (c .loop-label-test .taken) in
-    let found = c .if-equals .ensures tt in
+pub returns-then-eq : need.returns-then-eq
+returns-then-eq c =
+    let more = holds-more (c .args .labels .now) (c .args .self) plain (c .loop-label .label-index) (c .loop-label-test .taken) in
+    let found = c .if-eq .ensures tt in
     sym (sym (c .loop-label .inv) ∙ more ∙ rw (← found))
 
 pub loop-label-again : need.loop-label-again
 loop-label-again c =
-    let more = holds-more (c .args .labels .now) (c .args .self) (c .loop-label .label-index) (c .loop-label-test .taken) in
-    let other = c .if-equals .ensures tt in
+    let more = holds-more (c .args .labels .now) (c .args .self) plain (c .loop-label .label-index) (c .loop-label-test .taken) in
+    let other = c .if-eq .ensures tt in
     rw (← other) at (sym more ∙ c .loop-label .inv)
 
 pub returns : need.returns
