@@ -134,24 +134,24 @@ walled-lawful ls some few d = record {
   some = some;
   few = few;
   itself = λ a h. let x : Label = getD ls a plain in let e = nth-getD ls a plain h in
-    dominates-from ls a a record { upper = x; lower = x; upper-is = e; lower-is = e; covered = covers-itself x };
+      dominates-from ls a a record { upper = x; lower = x; upper-is = e; lower-is = e; covered = covers-itself x };
   through = λ a b c h k.
-    let ab = dominates-parts ls a b h in
-    let bc = dominates-parts ls b c k in
-    let joint = same-some (sym (ab .lower-is) ∙ bc .upper-is) in
-    dominates-from ls a c record {
-      upper = ab .upper;
-      lower = bc .lower;
-      upper-is = ab .upper-is;
-      lower-is = bc .lower-is;
-      covered = covers-through (ab .upper) (ab .lower) (bc .lower) (ab .covered) (rw joint (bc .covered));
-    };
+      let ab = dominates-parts ls a b h in
+      let bc = dominates-parts ls b c k in
+      let joint = same-some (sym (ab .lower-is) ∙ bc .upper-is) in
+      dominates-from ls a c record {
+        upper = ab .upper;
+        lower = bc .lower;
+        upper-is = ab .upper-is;
+        lower-is = bc .lower-is;
+        covered = covers-through (ab .upper) (ab .lower) (bc .lower) (ab .covered) (rw joint (bc .covered));
+      };
   same = λ a b h k.
-    let ab = dominates-parts ls a b h in
-    let ba = dominates-parts ls b a k in
-    let lower = same-some (sym (ab .lower-is) ∙ ba .upper-is) in
-    let upper = same-some (sym (ab .upper-is) ∙ ba .lower-is) in
-    distinct-place ls d a b (ab .upper) (ab .lower) (ab .upper-is) (ab .lower-is)
+      let ab = dominates-parts ls a b h in
+      let ba = dominates-parts ls b a k in
+      let lower = same-some (sym (ab .lower-is) ∙ ba .upper-is) in
+      let upper = same-some (sym (ab .upper-is) ∙ ba .lower-is) in
+      distinct-place ls d a b (ab .upper) (ab .lower) (ab .upper-is) (ab .lower-is)
       (covers-same (ab .upper) (ab .lower) (ab .covered) (rw (lower, upper) (ba .covered)));
   above = λ a b h. let ab = dominates-parts ls a b h in nth-within ls a (ab .upper) (ab .upper-is);
   below = λ a b h. let ab = dominates-parts ls a b h in nth-within ls b (ab .lower) (ab .lower-is);

@@ -1,5 +1,4 @@
 mod Every
 mod Labelled
-mod Refused
 mod Sets
 mod Tabled

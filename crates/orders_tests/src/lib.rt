@@ -3,10 +3,9 @@ ghost use mathlib.Core.Bool.{true};
 ghost use mathlib.Core.Path.{_≡_};
 ghost use Rattle.orders.specs.Cases.{walls-keep-apart};
 
-pub mod laws;
-
 #[cfg(test)]
 mod chains;
+pub mod laws;
 #[cfg(test)]
 mod rows;
 #[cfg(test)]
@@ -17,5 +16,4 @@ mod walled;
 // The worked case of four labels behind two walls holds.
 pub fn walls_keep_apart()
     ensures { λ _. ⌜ walls-keep-apart ≡ true ⌝ }
-{
-}
+{}

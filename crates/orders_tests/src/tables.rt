@@ -20,17 +20,32 @@ fn table(a: u16, b: u16, c: u16) -> Result<Table, OrderRefusal> {
 #[test]
 fn level_counts_come_first() -> Result<(), Fail> {
     check_eq(Table::new(0, [0; 16]).err(), Some(OrderRefusal::LevelCount))?;
-    check_eq(Table::new(17, [0; 16]).err(), Some(OrderRefusal::LevelCount))?;
+    check_eq(
+        Table::new(17, [0; 16]).err(),
+        Some(OrderRefusal::LevelCount),
+    )?;
     check_eq(Table::new(16, [0; 16]).err(), Some(OrderRefusal::LawBroken))?;
     check_eq(Table::new(1, [1; 16])?.levels(), 1)
 }
 
 #[test]
 fn each_law_is_tested() -> Result<(), Fail> {
-    check_eq(table(0b000, 0b010, 0b100).err(), Some(OrderRefusal::LawBroken)).note("0 does not dominate itself")?;
-    check_eq(table(0b001, 0b010, 0b000).err(), Some(OrderRefusal::LawBroken)).note("2 does not dominate itself")?;
-    check_eq(table(0b011, 0b011, 0b100).err(), Some(OrderRefusal::LawBroken)).note("0 and 1 dominate each other")?;
-    check_eq(table(0b001, 0b011, 0b110).err(), Some(OrderRefusal::LawBroken)).note("2 dominates 1 but not 0")
+    check_eq(
+        table(0b000, 0b010, 0b100).err(),
+        Some(OrderRefusal::LawBroken),
+    ).note("0 does not dominate itself")?;
+    check_eq(
+        table(0b001, 0b010, 0b000).err(),
+        Some(OrderRefusal::LawBroken),
+    ).note("2 does not dominate itself")?;
+    check_eq(
+        table(0b011, 0b011, 0b100).err(),
+        Some(OrderRefusal::LawBroken),
+    ).note("0 and 1 dominate each other")?;
+    check_eq(
+        table(0b001, 0b011, 0b110).err(),
+        Some(OrderRefusal::LawBroken),
+    ).note("2 dominates 1 but not 0")
 }
 
 #[test]

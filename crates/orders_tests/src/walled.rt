@@ -45,13 +45,19 @@ fn walls_keep_apart() -> Result<(), Fail> {
 
 #[test]
 fn no_label() -> Result<(), Fail> {
-    check_eq(WallsBuilder::new().finish().err(), Some(OrderRefusal::LevelCount))
+    check_eq(
+        WallsBuilder::new().finish().err(),
+        Some(OrderRefusal::LevelCount),
+    )
 }
 
 #[test]
 fn an_equal_label_changes_nothing() -> Result<(), Fail> {
     let mut builder = four_labels()?;
-    check_eq(builder.add(Label { rank: 1, walls: 2 }), Err(OrderRefusal::LawBroken))?;
+    check_eq(
+        builder.add(Label { rank: 1, walls: 2 }),
+        Err(OrderRefusal::LawBroken),
+    )?;
     are_the_four(builder.finish()?)?;
     check_eq(OrderRefusal::LawBroken.number(), 2)
 }
@@ -59,7 +65,10 @@ fn an_equal_label_changes_nothing() -> Result<(), Fail> {
 #[test]
 fn a_refused_builder_goes_on() -> Result<(), Fail> {
     let mut builder = labels(1)?;
-    check_eq(builder.add(Label { rank: 7, walls: 0 }), Err(OrderRefusal::LawBroken))?;
+    check_eq(
+        builder.add(Label { rank: 7, walls: 0 }),
+        Err(OrderRefusal::LawBroken),
+    )?;
     check_eq(builder.add(Label { rank: 8, walls: 0 }), Ok(()))?;
     let walls = builder.finish()?;
     check_eq(walls.levels(), 2)?;
@@ -71,8 +80,14 @@ fn a_refused_builder_goes_on() -> Result<(), Fail> {
 #[test]
 fn a_seventeenth_label_changes_nothing() -> Result<(), Fail> {
     let mut builder = labels(16)?;
-    check_eq(builder.add(Label { rank: 7, walls: 16 }), Err(OrderRefusal::LevelCount))?;
-    check_eq(builder.add(Label { rank: 7, walls: 3 }), Err(OrderRefusal::LevelCount))?;
+    check_eq(
+        builder.add(Label { rank: 7, walls: 16 }),
+        Err(OrderRefusal::LevelCount),
+    )?;
+    check_eq(
+        builder.add(Label { rank: 7, walls: 3 }),
+        Err(OrderRefusal::LevelCount),
+    )?;
     let walls = builder.finish()?;
     check_eq(walls.levels(), 16)?;
     check_eq(row(&walls, 5), 0b0011_0011)?;

@@ -2,7 +2,8 @@
 ghost use Prim.Native.Nat.{ℕ};
 ghost use mathlib.Core.Bool.{Bool};
 ghost use mathlib.Core.Path.{_≡_};
-ghost use Rattle.orders.specs.Orders.{every, goes-through, pair-keeps, level-keeps, keeps-laws};
+ghost use Rattle.std.specs.Orderings.{Decides};
+ghost use Rattle.orders.specs.Orders.{PartialOrder, every, goes-through, pair-keeps, level-keeps, keeps-laws};
 ghost use Rattle.orders.specs.Tabled.{relation-order};
 use crate::table::Relation;
 
@@ -93,7 +94,8 @@ impl Test for Single as SingleTest {
 
 impl Relation {
     pub(super) fn keeps_laws(&self) -> bool
-        ensures { λ r. ⌜ r ≡ keeps-laws (relation-order (now (self .entry))) ⌝ }
+        ensures value { λ r. ⌜ r ≡ keeps-laws (relation-order (now (self .entry))) ⌝ }
+        ensures exact { λ r. ⌜ Decides r (PartialOrder (relation-order (now (self .entry)))) ⌝ }
     {
         let single = Single { relation: *self };
         every(&single, self.levels())
