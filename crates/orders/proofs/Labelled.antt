@@ -2,7 +2,7 @@
 use mathlib.Core.Bool.{Bool, true, false, not, _&&_, _||_}
 use mathlib.Core.List.{List, [], _∷_, _++_}
 use mathlib.Core.Logic.{inl, inr}
-use mathlib.Core.Path.{_≡_, refl, sym, ap, _∙_}
+use mathlib.Core.Path.{_≡_, refl, sym, ap, ap₂, _∙_}
 use Prim.Native.Nat.{ℕ, zero, suc, _+_, _<_, _≤_}
 use native.Mathlib.Omega.{arith}
 use lib.Bits.{bitAnd, and-self, and-comm}
@@ -12,7 +12,8 @@ use Rattle.std.specs.Orderings.{Decides}
 use Rattle.std.proofs.shelf.Lists.{length-set, length-take-le, getD-take, take-more-set, at-drop-more}
 use Rattle.std.proofs.shelf.Maps.{nth-getD, nth-past}
 use Rattle.std.proofs.shelf.Tests.{and-parts, and-from, eqb-true, eq-eqb, leb-true, le-leb, ltb-true, lt-ltb, or-right, or-left, or-parts, or-from, not-true, not-from-false, both-ways, cases-bool, cases-lt, false≢true}
-use Rattle.std.proofs.shelf.Ways.{tells}
+use Rattle.std.proofs.shelf.Ways.{tells, decides-by-or}
+use Rattle.std.specs.shelf.Lists.{Has}
 use Rattle.std.specs.shelf.Maps.{nth}
 use Rattle.std.specs.declared.option.Option.{Option}
 use Rattle.std.specs.declared.option.Option.the-variants.{Some, None}
@@ -57,12 +58,21 @@ covers-same a b h k =
     sym (eqb-true (bitAnd (b .walls) (a .walls)) (a .walls) (q .1)) ∙ and-comm (b .walls) (a .walls) ∙ eqb-true (bitAnd (a .walls) (b .walls)) (b .walls) (p .1) in
     and-from (eqb (a .rank) (b .rank)) (eqb (a .walls) (b .walls)) (eq-eqb (a .rank) (b .rank) ranks) (eq-eqb (a .walls) (b .walls) walls)
 
+-- the test of equal labels, and the search for one, mean what they say
+equal-decides : (a b : Label) → Decides (equal-labels a b) (a ≡ b)
+equal-decides a b = (
+  λ h. let p = and-parts (eqb (a .rank) (b .rank)) (eqb (a .walls) (b .walls)) h in
+      ap₂ (λ r w. record { rank = r; walls = w }) (eqb-true (a .rank) (b .rank) (p .0)) (eqb-true (a .walls) (b .walls) (p .1)),
+  λ e. and-from (eqb (a .rank) (b .rank)) (eqb (a .walls) (b .walls))
+      (eq-eqb (a .rank) (b .rank) (ap (λ l. l .rank) e)) (eq-eqb (a .walls) (b .walls) (ap (λ l. l .walls) e)),
+)
+
 equal-flip : (a b : Label) → equal-labels a b ≡ true → equal-labels b a ≡ true
-equal-flip a b h =
-    let p = and-parts (eqb (a .rank) (b .rank)) (eqb (a .walls) (b .walls)) h in
-    and-from (eqb (b .rank) (a .rank)) (eqb (b .walls) (a .walls))
-    (eq-eqb (b .rank) (a .rank) (sym (eqb-true (a .rank) (b .rank) (p .0))))
-    (eq-eqb (b .walls) (a .walls) (sym (eqb-true (a .walls) (b .walls) (p .1))))
+equal-flip a b h = equal-decides b a .1 (sym (equal-decides a b .0 h))
+
+pub holds-decides : (xs : List Label) (l : Label) → Decides (holds xs l) (Has xs l)
+holds-decides xs l =
+    decides-by-or (λ x. equal-labels x l) (λ x. x ≡ l) (λ ys. holds ys l) (λ x. equal-decides x l) refl (λ _ _. refl) xs
 
 holds-push : (xs : List Label) (l x : Label) → holds xs x ≡ false → equal-labels l x ≡ false → holds (xs ++ l ∷ []) x ≡ false
 holds-push [] l x h k = rw k
@@ -131,11 +141,11 @@ nth-within ls i x h = elim (cases-lt i (length ls)) [ inl l ↦ l | inr l ↦ ab
 
 pub walled-lawful : (ls : List Label) → 1 ≤ length ls → length ls ≤ 16 → distinct ls ≡ true → PartialOrder (walled ls)
 walled-lawful ls some few d = record {
-  some = some;
-  few = few;
-  itself = λ a h. let x : Label = getD ls a plain in let e = nth-getD ls a plain h in
+  some-level = some;
+  few-levels = few;
+  reflexive = λ a h. let x : Label = getD ls a plain in let e = nth-getD ls a plain h in
       dominates-from ls a a record { upper = x; lower = x; upper-is = e; lower-is = e; covered = covers-itself x };
-  through = λ a b c h k.
+  transitive = λ a b c h k.
       let ab = dominates-parts ls a b h in
       let bc = dominates-parts ls b c k in
       let joint = same-some (sym (ab .lower-is) ∙ bc .upper-is) in
@@ -146,15 +156,15 @@ walled-lawful ls some few d = record {
         lower-is = bc .lower-is;
         covered = covers-through (ab .upper) (ab .lower) (bc .lower) (ab .covered) (rw joint (bc .covered));
       };
-  same = λ a b h k.
+  antisymmetric = λ a b h k.
       let ab = dominates-parts ls a b h in
       let ba = dominates-parts ls b a k in
       let lower = same-some (sym (ab .lower-is) ∙ ba .upper-is) in
       let upper = same-some (sym (ab .upper-is) ∙ ba .lower-is) in
       distinct-place ls d a b (ab .upper) (ab .lower) (ab .upper-is) (ab .lower-is)
       (covers-same (ab .upper) (ab .lower) (ab .covered) (rw (lower, upper) (ba .covered)));
-  above = λ a b h. let ab = dominates-parts ls a b h in nth-within ls a (ab .upper) (ab .upper-is);
-  below = λ a b h. let ab = dominates-parts ls a b h in nth-within ls b (ab .lower) (ab .lower-is);
+  upper-level = λ a b h. let ab = dominates-parts ls a b h in nth-within ls a (ab .upper) (ab .upper-is);
+  lower-level = λ a b h. let ab = dominates-parts ls a b h in nth-within ls b (ab .lower) (ab .lower-is);
 }
 
 -- the label at a place of the first n of a longer list

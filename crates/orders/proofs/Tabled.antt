@@ -10,7 +10,7 @@ use Rattle.std.specs.Orderings.{Decides}
 use Rattle.std.proofs.shelf.Tests.{and-parts, and-from, ltb-true, eqb-true, eq-eqb}
 use Rattle.std.proofs.shelf.Ways.{decides-and, decides-like}
 use Rattle.orders.specs.Bits.{bit}
-use Rattle.orders.specs.Orders.{Order, PartialOrder, every, implies, goes-through, goes-one-way, pair-keeps, level-keeps, keeps-laws}
+use Rattle.orders.specs.Orders.{Order, PartialOrder, every, implies, transitive-at, antisymmetric-at, lawful-pair, lawful-level, keeps-laws}
 use Rattle.orders.specs.Tables.{tabled}
 use Rattle.orders.proofs.Every.{every-decides}
 
@@ -32,39 +32,39 @@ implied-from false q r f = refl
 module _ (m : ℕ) (rows : List ℕ) where
   -- what the test found at a level and at a pair
   at-level : keeps-laws (tabled m rows) ≡ true → (a : ℕ) → a < m
-      → (tabled m rows .dominates a a ≡ true) × (every m (pair-keeps (tabled m rows) a) ≡ true)
+      → (tabled m rows .dominates a a ≡ true) × (every m (lawful-pair (tabled m rows) a) ≡ true)
   at-level h a ha =
-      and-parts (tabled m rows .dominates a a) (every m (pair-keeps (tabled m rows) a)) (every-decides (level-keeps (tabled m rows)) m .0 h a ha)
+      and-parts (tabled m rows .dominates a a) (every m (lawful-pair (tabled m rows) a)) (every-decides (lawful-level (tabled m rows)) m .0 h a ha)
 
   at-pair : keeps-laws (tabled m rows) ≡ true → (a b : ℕ) → a < m → b < m
-      → (goes-one-way (tabled m rows) a b ≡ true) × (every m (goes-through (tabled m rows) a b) ≡ true)
+      → (antisymmetric-at (tabled m rows) a b ≡ true) × (every m (transitive-at (tabled m rows) a b) ≡ true)
   at-pair h a b ha hb =
-      and-parts (goes-one-way (tabled m rows) a b) (every m (goes-through (tabled m rows) a b))
-      (every-decides (pair-keeps (tabled m rows) a) m .0 (at-level h a ha .1) b hb)
+      and-parts (antisymmetric-at (tabled m rows) a b) (every m (transitive-at (tabled m rows) a b))
+      (every-decides (lawful-pair (tabled m rows) a) m .0 (at-level h a ha .1) b hb)
 
   pub passed-lawful : 1 ≤ m → m ≤ 16 → keeps-laws (tabled m rows) ≡ true → PartialOrder (tabled m rows)
   passed-lawful some few h = record {
-    some = some;
-    few = few;
-    itself = λ a ha. at-level h a ha .0;
-    through = λ a b c ab bc.
+    some-level = some;
+    few-levels = few;
+    reflexive = λ a ha. at-level h a ha .0;
+    transitive = λ a b c ab bc.
         let ia = inside m rows a b ab in
         let ic = inside m rows b c bc in
-        let t = every-decides (goes-through (tabled m rows) a b) m .0 (at-pair h a b (ia .0) (ia .1) .1) c (ic .1) in
+        let t = every-decides (transitive-at (tabled m rows) a b) m .0 (at-pair h a b (ia .0) (ia .1) .1) c (ic .1) in
         implied (tabled m rows .dominates a b) (tabled m rows .dominates b c) (tabled m rows .dominates a c) t ab bc;
-    same = λ a b ab ba.
+    antisymmetric = λ a b ab ba.
         let ia = inside m rows a b ab in
         eqb-true a b (implied (tabled m rows .dominates a b) (tabled m rows .dominates b a) (eqb a b) (at-pair h a b (ia .0) (ia .1) .0) ab ba);
-    above = λ a b ab. inside m rows a b ab .0;
-    below = λ a b ab. inside m rows a b ab .1;
+    upper-level = λ a b ab. inside m rows a b ab .0;
+    lower-level = λ a b ab. inside m rows a b ab .1;
   }
 
   pub lawful-passes : PartialOrder (tabled m rows) → keeps-laws (tabled m rows) ≡ true
   lawful-passes l =
-      every-decides (level-keeps (tabled m rows)) m .1 (λ a ha.
-      and-from (tabled m rows .dominates a a) (every m (pair-keeps (tabled m rows) a)) (l .itself a ha)
-      (every-decides (pair-keeps (tabled m rows) a) m .1 (λ b hb.
-      and-from (goes-one-way (tabled m rows) a b) (every m (goes-through (tabled m rows) a b))
-      (implied-from (tabled m rows .dominates a b) (tabled m rows .dominates b a) (eqb a b) (λ ab ba. eq-eqb a b (l .same a b ab ba)))
-      (every-decides (goes-through (tabled m rows) a b) m .1 (λ c hc.
-      implied-from (tabled m rows .dominates a b) (tabled m rows .dominates b c) (tabled m rows .dominates a c) (l .through a b c))))))
+      every-decides (lawful-level (tabled m rows)) m .1 (λ a ha.
+      and-from (tabled m rows .dominates a a) (every m (lawful-pair (tabled m rows) a)) (l .reflexive a ha)
+      (every-decides (lawful-pair (tabled m rows) a) m .1 (λ b hb.
+      and-from (antisymmetric-at (tabled m rows) a b) (every m (transitive-at (tabled m rows) a b))
+      (implied-from (tabled m rows .dominates a b) (tabled m rows .dominates b a) (eqb a b) (λ ab ba. eq-eqb a b (l .antisymmetric a b ab ba)))
+      (every-decides (transitive-at (tabled m rows) a b) m .1 (λ c hc.
+      implied-from (tabled m rows .dominates a b) (tabled m rows .dominates b c) (tabled m rows .dominates a c) (l .transitive a b c))))))

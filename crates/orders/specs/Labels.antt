@@ -29,6 +29,13 @@ pub record Covers (a b : Label) : Type 0 where
   pub rank : b .rank ≤ a .rank
   pub walls : (w : ℕ) → bit (b .walls) w ≡ true → bit (a .walls) w ≡ true
 
+-- a covers b where both are labels; where one is missing, nothing is covered
+abbrev pub covers-if : Option Label → Option Label → Bool
+covers-if (Some a) (Some b) = covers a b
+covers-if (Some a) None = false
+covers-if None b = false
+
+-- equal in rank and in walls
 abbrev pub equal-labels : Label → Label → Bool
 equal-labels a b = eqb (a .rank) (b .rank) && eqb (a .walls) (b .walls)
 
@@ -49,12 +56,6 @@ label-refusal ls l = cond (ltb (length ls) 16) (cond (holds ls l) (Some LawBroke
 -- the labels after one more was asked for
 abbrev pub with-label : List Label → Label → List Label
 with-label ls l = changed (label-refusal ls l) ls (ls ++ l ∷ [])
-
--- the same where there may be no label: nothing covers it, and it covers nothing
-abbrev pub covers-if : Option Label → Option Label → Bool
-covers-if (Some a) (Some b) = covers a b
-covers-if (Some a) None = false
-covers-if None b = false
 
 -- level k carries the label at place k, and a dominates b when a's label covers b's
 abbrev pub walled : List Label → Order

@@ -1,6 +1,7 @@
 // What a level of walls carries: a rank, and a set of up to 16 walls, one bit each.
 ghost use mathlib.Core.Path.{_≡_};
 ghost use Rattle.std.specs.Orderings.{Decides};
+ghost use Rattle.std.specs.shelf.Lists.{Has};
 ghost use Rattle.orders.specs.Labels.{includes, covers, Covers, equal-labels, holds};
 
 #[derive(Clone, Copy)]
@@ -20,7 +21,8 @@ impl Label {
 
     // Whether one of `labels` equals this one.
     pub(crate) fn stands_in(self, labels: &[Label]) -> bool
-        ensures { λ r. ⌜ r ≡ holds (now (labels .entry)) self ⌝ }
+        ensures value { λ r. ⌜ r ≡ holds (now (labels .entry)) self ⌝ }
+        ensures exact { λ r. ⌜ Decides r (Has (now (labels .entry)) self) ⌝ }
     {
         for label in labels {
             if *label == self {

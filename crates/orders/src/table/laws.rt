@@ -3,7 +3,7 @@ ghost use Prim.Native.Nat.{ℕ};
 ghost use mathlib.Core.Bool.{Bool};
 ghost use mathlib.Core.Path.{_≡_};
 ghost use Rattle.std.specs.Orderings.{Decides};
-ghost use Rattle.orders.specs.Orders.{PartialOrder, every, goes-through, pair-keeps, level-keeps, keeps-laws};
+ghost use Rattle.orders.specs.Orders.{PartialOrder, every, transitive-at, lawful-pair, lawful-level, keeps-laws};
 ghost use Rattle.orders.specs.Tabled.{relation-order};
 use crate::table::Relation;
 
@@ -36,7 +36,7 @@ struct Triple {
 }
 
 impl Test for Triple as TripleTest {
-    ghost passes = { λ t. goes-through (relation-order (t .relation)) (t .first) (t .second) };
+    ghost passes = { λ t. transitive-at (relation-order (t .relation)) (t .first) (t .second) };
 
     fn test(&self, level: u8) -> bool {
         let o = &self.relation;
@@ -53,7 +53,7 @@ struct Pair {
 }
 
 impl Test for Pair as PairTest {
-    ghost passes = { λ t. pair-keeps (relation-order (t .relation)) (t .first) };
+    ghost passes = { λ t. lawful-pair (relation-order (t .relation)) (t .first) };
 
     fn test(&self, level: u8) -> bool {
         let o = &self.relation;
@@ -77,7 +77,7 @@ struct Single {
 }
 
 impl Test for Single as SingleTest {
-    ghost passes = { λ t. level-keeps (relation-order (t .relation)) };
+    ghost passes = { λ t. lawful-level (relation-order (t .relation)) };
 
     fn test(&self, level: u8) -> bool {
         let o = &self.relation;

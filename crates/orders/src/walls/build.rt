@@ -41,6 +41,7 @@ impl WallsBuilder {
         }
     }
 
+    // Why a label would be refused, if it would.
     fn refusal(&self, label: Label) -> Option<OrderRefusal>
         ensures { λ r. ⌜ r ≡ label-refusal (labels-of (now (self .entry))) label ⌝ }
     {
@@ -54,6 +55,7 @@ impl WallsBuilder {
         None
     }
 
+    // Stores a label that is not refused.
     fn push(&mut self, label: Label)
         requires { ⌜ label-refusal (labels-of (now self)) label ≡ None ⌝ }
         ensures { λ _. ⌜ labels-of (now (self .exit)) ≡ labels-of (now (self .entry)) ++ label ∷ [] ⌝ }

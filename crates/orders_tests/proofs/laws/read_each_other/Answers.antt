@@ -7,7 +7,7 @@ returns-then-dominates g c =
     let law = g .O·LevelOrder·met .lawful (c .args .order .now) in
     let ab = sym (c .dominates .ensures) ∙ c .if-dominates .taken in
     record {
-      same = λ h. law .same (c .args .a) (c .args .b) ab (sym (c .dominates-then-dominates .ensures) ∙ h);
-      upper = λ _. law .above (c .args .a) (c .args .b) ab;
-      lower = λ _. law .below (c .args .a) (c .args .b) ab;
+      same = λ h. law .antisymmetric (c .args .a) (c .args .b) ab (sym (c .dominates-then-dominates .ensures) ∙ h);
+      upper = λ _. law .upper-level (c .args .a) (c .args .b) ab;
+      lower = λ _. law .lower-level (c .args .a) (c .args .b) ab;
     }

@@ -1,14 +1,21 @@
-use mathlib.Core.Path.{sym, _∙_}
+use mathlib.Core.Bool.{Bool}
+use mathlib.Core.Path.{_≡_, sym, _∙_}
+use Rattle.std.specs.Orderings.{Decides}
+use Rattle.std.specs.shelf.Lists.{Has}
 use Rattle.std.proofs.shelf.Lists.{at-drop-all}
+use Rattle.std.proofs.shelf.Ways.{decides-at}
 use Rattle.orders.specs.Labels.{holds}
-use Rattle.orders.proofs.Labelled.{plain, holds-more}
+use Rattle.orders.proofs.Labelled.{plain, holds-more, holds-decides}
 use Rattle.orders.proofs.label.Label.stands_in.Needs as need
 
 pub returns-then-eq : need.returns-then-eq
 returns-then-eq c =
-    let more = holds-more (c .args .labels .now) (c .args .self) plain (c .loop-label .label-index) (c .loop-label-test .taken) in
+    let xs = c .args .labels .now in
+    let l = c .args .self in
+    let more = holds-more xs l plain (c .loop-label .label-index) (c .loop-label-test .taken) in
     let found = c .if-eq .ensures tt in
-    sym (sym (c .loop-label .inv) ∙ more ∙ rw (← found))
+    let value = sym (sym (c .loop-label .inv) ∙ more ∙ rw (← found)) in
+    record { value = value; exact = decides-at _ (holds xs l) value (holds-decides xs l) }
 
 pub loop-label-again : need.loop-label-again
 loop-label-again c =
@@ -18,5 +25,8 @@ loop-label-again c =
 
 pub returns : need.returns
 returns c =
-    let none = at-drop-all (λ ys. holds ys (c .args .self)) (c .args .labels .now) (c .loop-label .label-index) (c .loop-label-test .left) in
-    sym none ∙ c .loop-label .inv
+    let xs = c .args .labels .now in
+    let l = c .args .self in
+    let none = at-drop-all (λ ys. holds ys l) xs (c .loop-label .label-index) (c .loop-label-test .left) in
+    let value = sym none ∙ c .loop-label .inv in
+    record { value = value; exact = decides-at _ (holds xs l) value (holds-decides xs l) }
