@@ -1,0 +1,2 @@
+mod Ranking
+mod Shares
