@@ -1,12 +1,15 @@
 use mathlib.Core.List.{_++_}
-use mathlib.Core.Path.{sym, ap, ap₂, _∙_}
+use mathlib.Core.Path.{_≡_, ap}
+use Prim.Native.Nat.{_+_}
 use native.Mathlib.Numerals.{add-one}
-use Rattle.demo.specs.Charts.{marks}
+use Rattle.demo.specs.Charts.{mark, marks}
 use Rattle.demo.proofs.chart.chart_row.Needs as need
 
 pub loop-column-again : need.loop-column-again
 loop-column-again g c =
     let o = g .O·LevelOrder .meaning (c .args .order .now) in
-    c .in-Continue-push-str .ensures tt .bytes
-    ∙ ap₂ _++_ (c .loop-column .inv) (c .mark .ensures)
-    ∙ ap (marks o (c .args .level)) (sym (add-one (c .loop-column .column)))
+    let a = c .args .level in
+    let i = c .loop-column .column in
+    let next : marks o a (i + 1) ≡ marks o a i ++ mark o a i = ap (marks o a) (add-one i) in
+    let bytes = c .in-Continue-push-str .ensures tt .bytes in
+    cc
