@@ -1,0 +1,4 @@
+pub mod Edits
+pub mod Items
+pub mod Refusals
+pub mod Rows
