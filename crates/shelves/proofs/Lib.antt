@@ -1,1 +1,4 @@
+mod Drawn
+mod Fronts
+mod Placed
 mod Ruled

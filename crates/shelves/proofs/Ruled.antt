@@ -19,11 +19,8 @@ use Rattle.std.specs.declared.option.Option.the-variants.{Some, None}
 use Rattle.shelves.specs.declared.version.State.{State}
 use Rattle.shelves.specs.declared.version.State.the-variants.{Committed, Pending}
 use Rattle.shelves.specs.declared.version.Version.{Version}
+use Rattle.shelves.specs.Edits.{blank}
 use Rattle.shelves.specs.Rows.{is-committed, goes-before, leads, in-order, any-committed, keeps-rule, RowRule}
-
--- a version of zeros
-abbrev pub blank : Version
-blank = record { number = 0; stamp = 0; mark = 0; state = Committed; value = 0 }
 
 none-some : {x : Version} → None ≡ Some x → ⊥
 none-some h = let z : _≡_ {A = ℕ} 0 1 = cc in omega arith
@@ -47,11 +44,11 @@ order-more vs i some h =
 pub order-end : (vs : List Version) (i : ℕ) → 1 ≤ i → length vs ≤ i → in-order (drop (i - 1) vs) ≡ true
 order-end vs i some h =
     elim (cases-lt (i - 1) (length vs)) [
-      inl l ↦
-        let last : drop (i - 1) vs ≡ getD vs (i - 1) blank ∷ [] =
-              drop-more vs (i - 1) blank l ∙ ap (λ ws. getD vs (i - 1) blank ∷ ws) (drop-all (i - 1 + 1) vs (omega arith)) in
-        ap in-order last
-    | inr l ↦ ap in-order (drop-all (i - 1) vs l)
+      | inl l ↦
+          let last : drop (i - 1) vs ≡ getD vs (i - 1) blank ∷ [] =
+          drop-more vs (i - 1) blank l ∙ ap (λ ws. getD vs (i - 1) blank ∷ ws) (drop-all (i - 1 + 1) vs (omega arith)) in
+          ap in-order last
+      | inr l ↦ ap in-order (drop-all (i - 1) vs l)
     ]
 
 -- the rule in words
@@ -60,11 +57,12 @@ record Before (v w : Version) : Type 0 where
   stamp : v .stamp ≤ w .stamp
 
 before-decides : (v w : Version) → Decides (goes-before v w) (Before v w)
-before-decides v w =
-    (λ h. let p = and-parts (ltb (v .number) (w .number)) (leb (v .stamp) (w .stamp)) h in
-          record { number = ltb-true (v .number) (w .number) (p .0); stamp = leb-true (v .stamp) (w .stamp) (p .1) },
-     λ b. and-from (ltb (v .number) (w .number)) (leb (v .stamp) (w .stamp))
-            (lt-ltb (v .number) (w .number) (b .number)) (le-leb (v .stamp) (w .stamp) (b .stamp)))
+before-decides v w = (
+  λ h. let p = and-parts (ltb (v .number) (w .number)) (leb (v .stamp) (w .stamp)) h in
+      record { number = ltb-true (v .number) (w .number) (p .0); stamp = leb-true (v .stamp) (w .stamp) (p .1) },
+  λ b. and-from (ltb (v .number) (w .number)) (leb (v .stamp) (w .stamp))
+      (lt-ltb (v .number) (w .number) (b .number)) (le-leb (v .stamp) (w .stamp) (b .stamp)),
+)
 
 -- the first version goes before all others
 before-far : (v : Version) (vs : List Version) → leads v vs ≡ true → in-order vs ≡ true → (j : ℕ) (w : Version) → nth vs j ≡ Some w → Before v w
@@ -91,7 +89,7 @@ pairs-order [] h = refl
 pairs-order (x ∷ []) h = refl
 pairs-order (x ∷ y ∷ zs) h =
     and-from (goes-before x y) (in-order (y ∷ zs)) (before-decides x y .1 (h 0 1 x y (omega arith) refl refl))
-      (pairs-order (y ∷ zs) (λ i j v w l p q. h (suc i) (suc j) v w (omega arith) p q))
+    (pairs-order (y ∷ zs) (λ i j v w l p q. h (suc i) (suc j) v w (omega arith) p q))
 
 committed-state : (s : State) → Decides (is-committed s) (s ≡ Committed)
 committed-state Committed = (λ _. refl, λ _. refl)
@@ -99,9 +97,10 @@ committed-state Pending = (λ h. let z : _≡_ {A = ℕ} 0 1 = cc in absurd (ome
 
 committed-decides : (vs : List Version) → Decides (any-committed vs) ((v : Version) × Has vs v × (v .state ≡ Committed))
 committed-decides vs =
-    let d = decides-by-or (λ v. is-committed (v .state)) (λ v. v .state ≡ Committed) any-committed (λ v. committed-state (v .state)) refl (λ _ _. refl) vs in
-    (λ h. let f = d .0 h in (getD vs (f .0) blank, has-getD vs (f .0) blank (f .1), f .2 blank),
-     λ f. d .1 (f .1 .0, f .1 .1, λ e. ap (λ (y : Version). y .state) (f .1 .2 e) ∙ f .2))
+    let d = decides-by-or (λ v. is-committed (v .state)) (λ v. v .state ≡ Committed) any-committed (λ v. committed-state (v .state)) refl (λ _ _. refl) vs in (
+      λ h. let f = d .0 h in (getD vs (f .0) blank, has-getD vs (f .0) blank (f .1), f .2 blank),
+      λ f. d .1 (f .1 .0, f .1 .1, λ e. ap (λ (y : Version). y .state) (f .1 .2 e) ∙ f .2),
+    )
 
 pub rule-decides : (vs : List Version) → Decides (keeps-rule vs) (RowRule vs)
 rule-decides vs = (forth, back)
@@ -118,10 +117,11 @@ rule-decides vs = (forth, back)
           stamps-never-fall = λ i j v w l a b. order-pairs vs (o .0) i j v w l a b .stamp;
           one-committed = committed-decides vs .0 (o .1);
         }
+
     back : RowRule vs → keeps-rule vs ≡ true
     back r =
         and-from (leb 1 (length vs) && leb (length vs) 8) (in-order vs && any-committed vs)
-          (and-from (leb 1 (length vs)) (leb (length vs) 8) (le-leb 1 (length vs) (r .some)) (le-leb (length vs) 8 (r .few)))
-          (and-from (in-order vs) (any-committed vs)
-            (pairs-order vs (λ i j v w l a b. record { number = r .numbers-rise i j v w l a b; stamp = r .stamps-never-fall i j v w l a b }))
-            (committed-decides vs .1 (r .one-committed)))
+        (and-from (leb 1 (length vs)) (leb (length vs) 8) (le-leb 1 (length vs) (r .some)) (le-leb (length vs) 8 (r .few)))
+        (and-from (in-order vs) (any-committed vs)
+        (pairs-order vs (λ i j v w l a b. record { number = r .numbers-rise i j v w l a b; stamp = r .stamps-never-fall i j v w l a b }))
+        (committed-decides vs .1 (r .one-committed)))

@@ -1,12 +1,14 @@
 -- What the three edits make of a row. Assumes nothing.
 use mathlib.Core.Bool.{Bool, cond, _&&_}
-use mathlib.Core.List.{List}
+use mathlib.Core.List.{List, map}
 use Prim.Native.Nat.{ℕ, _+_, _-_}
-use lib.Dec.{leb, ltb}
-use lib.ListN.{length, set}
+use lib.Dec.{eqb, leb, ltb}
+use lib.ListN.{length, getD, set}
+use Rattle.std.specs.Iters.{counting}
 use Rattle.std.specs.shelf.Lists.{inserted, removed}
 use Rattle.shelves.specs.declared.edit.Edit.{Edit}
 use Rattle.shelves.specs.declared.edit.Edit.the-variants.{Put, Insert, Remove}
+use Rattle.shelves.specs.declared.version.State.the-variants.{Committed}
 use Rattle.shelves.specs.declared.version.Version.{Version}
 use Rattle.shelves.specs.Rows.{keeps-rule}
 
@@ -34,3 +36,18 @@ accepts e vs = fits e (length vs) && keeps-rule (edited e vs)
 -- the row afterwards
 abbrev pub row-after : Edit → List Version → List Version
 row-after e vs = cond (accepts e vs) (edited e vs) vs
+
+-- eight places, of which a row uses the first ones: an edit moves those behind its place, and what comes free is blank
+
+-- a version of zeros
+abbrev pub blank : Version
+blank = record { number = 0; stamp = 0; mark = 0; state = Committed; value = 0 }
+
+-- what stands at place j afterwards
+abbrev pub place-after : Edit → List Version → ℕ → Version
+place-after (Put p v) vs j = cond (eqb j p) v (getD vs j blank)
+place-after (Insert p v) vs j = cond (ltb j p) (getD vs j blank) (cond (eqb j p) v (getD vs (j - 1) blank))
+place-after (Remove p) vs j = cond (ltb j p) (getD vs j blank) (cond (ltb j 7) (getD vs (j + 1) blank) blank)
+
+abbrev pub places-after : Edit → List Version → List Version
+places-after e vs = map (place-after e vs) (counting 0 8)

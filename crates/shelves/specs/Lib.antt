@@ -1,3 +1,4 @@
+pub mod Drawers
 pub mod Edits
 pub mod Items
 pub mod Refusals

@@ -1,6 +1,10 @@
 // An edit of one version at a place of a row, counted from 0.
 use crate::version::Version;
 
+mod places;
+
+pub(crate) use places::BLANK;
+
 #[derive(Clone, Copy)]
 pub enum Edit {
     // Replaces the version at the place.

@@ -1,11 +1,14 @@
 // Shelves: what holds the rows of versions.
 
+mod drawer;
 mod edit;
 mod refusal;
 mod rule;
 mod shelf;
 mod version;
 
+pub use drawer::Drawer;
+pub use drawer::DrawerShelf;
 pub use edit::Edit;
 pub use refusal::ShelfRefusal;
 pub use refusal::ShelfRefusalDebug;

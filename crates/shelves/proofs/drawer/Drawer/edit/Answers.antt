@@ -1,0 +1,51 @@
+use mathlib.Core.Path.{_≡_, refl, sym, ap, _∙_}
+use Prim.Native.Nat.{ℕ}
+use native.Mathlib.Omega.{arith}
+use lib.ListN.{getD}
+use Rattle.std.specs.declared.option.Option.the-variants.{Some}
+use Rattle.std.proofs.iter.runs.Lists.{nth-read}
+use Rattle.shelves.specs.Drawers.{DrawerEdited}
+use Rattle.shelves.proofs.Drawn.{unknown-item, refused-edit, accepted-edit}
+use Rattle.shelves.proofs.drawer.Drawer.edit.Needs as need
+
+pub returns-then-item-self : need.returns-then-item-self
+returns-then-item-self c =
+    let k = unknown-item (c .args .self .now) (c .args .item) (c .args .edit) (c .if-item-self .taken) in
+    record {
+      answer = sym (k .answer);
+      after = sym (k .after);
+      refused = λ _. refl;
+      step = λ h. let z : _≡_ {A = ℕ} 0 1 = cc in absurd (omega arith);
+    }
+
+pub returns-in-None : need.returns-in-None
+returns-in-None c =
+    let k = refused-edit (c .args .self .now) (c .args .item) (c .args .edit) (c .index-self-item .result) (c .if-item-self .left) (c .in-None .ensures tt) in
+    record {
+      answer = sym (k .answer);
+      after = sym (k .after);
+      refused = λ _. refl;
+      step = λ h. let z : _≡_ {A = ℕ} 0 1 = cc in absurd (omega arith);
+    }
+
+pub returns-in-Some : need.returns-in-Some
+returns-in-Some c =
+    let d = c .args .self .now in
+    let i = c .args .item in
+    let r = getD (d .rows) i (c .index-self-item .result) in
+    let found = nth-read (d .rows) i (c .index-self-item .result) (omega arith) in
+    let k = accepted-edit d i (c .args .edit) r (c .in-Some .next) (c .if-item-self .left) found (c .in-Some .ensures tt) in
+    record {
+      answer = sym (k .answer);
+      after = k .after;
+      refused = λ h. let z : _≡_ {A = ℕ} 0 1 = cc in absurd (omega arith);
+      step = λ _. record {
+        before = r;
+        after = c .in-Some .next;
+        known = c .if-item-self .left;
+        found = found;
+        edited = c .in-Some .ensures tt;
+        rows = refl;
+        count = refl;
+      };
+    }
