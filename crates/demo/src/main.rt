@@ -1,16 +1,19 @@
 // Reads wall labels, a line each, builds the level order of those that are accepted, and prints the answer to each
-// line and the chart of who reads whom; then where a new transaction would stand under each placement.
+// line and the chart of who reads whom; then where a new transaction would stand under each placement,
+// and rows of a drawer with edits of them.
 use chart::print_chart;
 use degrees::print_degrees;
 use labels::AnswerDisplay;
 use labels::take_label;
 use orders::WallsBuilder;
 use orders::WallsOrder;
+use rows::print_rows;
 use std::error::AnyError;
 
 mod chart;
 mod degrees;
 mod labels;
+mod rows;
 
 fn run(rt: &LibcRuntime) -> Result<(), AnyError> {
     let mut builder = WallsBuilder::new();
@@ -26,7 +29,8 @@ fn run(rt: &LibcRuntime) -> Result<(), AnyError> {
             println!(rt, "no order, refused with {number}: no label was accepted")?;
         }
     }
-    print_degrees(rt)
+    print_degrees(rt)?;
+    print_rows(rt)
 }
 
 fn main(rt: LibcRuntime) -> Result<(), AnyError> {

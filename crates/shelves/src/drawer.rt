@@ -23,6 +23,7 @@ struct Row {
 }
 
 // Items 0 to `count` - 1 are the first rows; the others mean nothing.
+#[derive(Drop)]
 pub struct Drawer {
     rows: [Row; 64],
     count: u32,
