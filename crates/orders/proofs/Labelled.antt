@@ -1,17 +1,18 @@
 -- Labels under `covers` are partially ordered, and so is a list of labels no two of which are equal. Assumes nothing.
-use mathlib.Core.Bool.{Bool, true, false, not, _&&_, _||_}
+use mathlib.Core.Bool.{true, false, not, _||_}
 use mathlib.Core.List.{List, [], _∷_, _++_}
 use mathlib.Core.Logic.{inl, inr}
 use mathlib.Core.Path.{_≡_, refl, sym, ap, ap₂, _∙_}
 use Prim.Native.Nat.{ℕ, zero, suc, _+_, _<_, _≤_}
 use native.Mathlib.Omega.{arith}
-use lib.Bits.{bitAnd, and-self, and-comm}
-use lib.Dec.{eqb, leb, ltb}
+use lib.Bits.{bitAnd, and-comm}
+use lib.Dec.{eqb, leb}
 use lib.ListN.{length, getD, set, take, drop}
 use Rattle.std.specs.Orderings.{Decides}
+use Rattle.std.proofs.iter.runs.Lists.{none-some, same-some, nth-within}
 use Rattle.std.proofs.shelf.Lists.{length-set, length-take-le, getD-take, take-more-set, at-drop-more}
 use Rattle.std.proofs.shelf.Maps.{nth-getD, nth-past}
-use Rattle.std.proofs.shelf.Tests.{and-parts, and-from, eqb-true, eq-eqb, leb-true, le-leb, ltb-true, lt-ltb, or-right, or-left, or-parts, or-from, not-true, not-from-false, both-ways, cases-bool, cases-lt, false≢true}
+use Rattle.std.proofs.shelf.Tests.{and-parts, and-from, eqb-true, eq-eqb, leb-true, le-leb, or-right, or-left, or-parts, or-from, not-true, not-from-false, both-ways, cases-bool, false≢true}
 use Rattle.std.proofs.shelf.Ways.{tells, decides-by-or}
 use Rattle.std.specs.shelf.Lists.{Has}
 use Rattle.std.specs.shelf.Maps.{nth}
@@ -25,12 +26,6 @@ use Rattle.orders.proofs.Sets.{each-wall, includes-by-walls}
 -- a label of rank 0 with no wall
 abbrev pub plain : Label
 plain = record { rank = 0; walls = 0 }
-
-none-some : {x : Label} → None ≡ Some x → ⊥
-none-some h = let z : _≡_ {A = ℕ} 0 1 = cc in omega arith
-
-same-some : {x y : Label} → Some x ≡ Some y → x ≡ y
-same-some h = cc
 
 pub covers-wall-by-wall : (a b : Label) → Decides (covers a b) (Covers a b)
 covers-wall-by-wall a b = (
@@ -81,8 +76,8 @@ holds-push (y ∷ ys) l x h k =
     or-from (equal-labels y x) (holds (ys ++ l ∷ []) x) (p .0) (holds-push ys l x (p .1) k)
 
 holds-at : (xs : List Label) (x y : Label) (i : ℕ) → nth xs i ≡ Some x → equal-labels x y ≡ true → holds xs y ≡ true
-holds-at [] x y i h k = absurd (none-some h)
-holds-at (z ∷ zs) x y zero h k = or-left (equal-labels z y) (holds zs y) (rw (same-some h) k)
+holds-at [] x y i h k = absurd (none-some x h)
+holds-at (z ∷ zs) x y zero h k = or-left (equal-labels z y) (holds zs y) (rw (same-some z x h) k)
 holds-at (z ∷ zs) x y (suc i) h k = or-right (equal-labels z y) (holds zs y) (holds-at zs x y i h k)
 
 -- a step of a search through the labels
@@ -105,14 +100,14 @@ distinct-push (y ∷ ys) l d h =
 -- equal labels stand at one place
 distinct-place : (xs : List Label) → distinct xs ≡ true → (i j : ℕ) (x y : Label) → nth xs i ≡ Some x → nth xs j ≡ Some y
     → equal-labels x y ≡ true → i ≡ j
-distinct-place [] d i j x y hi hj e = absurd (none-some hi)
+distinct-place [] d i j x y hi hj e = absurd (none-some x hi)
 distinct-place (z ∷ zs) d zero zero x y hi hj e = refl
 distinct-place (z ∷ zs) d zero (suc j) x y hi hj e =
     let p = and-parts (not (holds zs z)) (distinct zs) d in
-    absurd (both-ways (holds zs z) (not-true (holds zs z) (p .0)) (holds-at zs y z j hj (rw (same-some hi) (equal-flip x y e))))
+    absurd (both-ways (holds zs z) (not-true (holds zs z) (p .0)) (holds-at zs y z j hj (rw (same-some z x hi) (equal-flip x y e))))
 distinct-place (z ∷ zs) d (suc i) zero x y hi hj e =
     let p = and-parts (not (holds zs z)) (distinct zs) d in
-    absurd (both-ways (holds zs z) (not-true (holds zs z) (p .0)) (holds-at zs x z i hi (rw (same-some hj) e)))
+    absurd (both-ways (holds zs z) (not-true (holds zs z) (p .0)) (holds-at zs x z i hi (rw (same-some z y hj) e)))
 distinct-place (z ∷ zs) d (suc i) (suc j) x y hi hj e =
     let p = and-parts (not (holds zs z)) (distinct zs) d in
     ap suc (distinct-place zs (p .1) i j x y hi hj e)
@@ -136,9 +131,6 @@ dominates-parts ls a b h = by (nth ls a) (nth ls b) refl refl h
 dominates-from : (ls : List Label) (a b : ℕ) → Dominates ls a b → walled ls .dominates a b ≡ true
 dominates-from ls a b d = rw (d .upper-is, d .lower-is) (d .covered)
 
-nth-within : (ls : List Label) (i : ℕ) (x : Label) → nth ls i ≡ Some x → i < length ls
-nth-within ls i x h = elim (cases-lt i (length ls)) [ inl l ↦ l | inr l ↦ absurd (none-some (sym (nth-past ls i l) ∙ h)) ]
-
 pub walled-lawful : (ls : List Label) → 1 ≤ length ls → length ls ≤ 16 → distinct ls ≡ true → PartialOrder (walled ls)
 walled-lawful ls some few d = record {
   some-level = some;
@@ -148,7 +140,7 @@ walled-lawful ls some few d = record {
   transitive = λ a b c h k.
       let ab = dominates-parts ls a b h in
       let bc = dominates-parts ls b c k in
-      let joint = same-some (sym (ab .lower-is) ∙ bc .upper-is) in
+      let joint = same-some (ab .lower) (bc .upper) (sym (ab .lower-is) ∙ bc .upper-is) in
       dominates-from ls a c record {
         upper = ab .upper;
         lower = bc .lower;
@@ -159,8 +151,8 @@ walled-lawful ls some few d = record {
   antisymmetric = λ a b h k.
       let ab = dominates-parts ls a b h in
       let ba = dominates-parts ls b a k in
-      let lower = same-some (sym (ab .lower-is) ∙ ba .upper-is) in
-      let upper = same-some (sym (ab .upper-is) ∙ ba .lower-is) in
+      let lower = same-some (ab .lower) (ba .upper) (sym (ab .lower-is) ∙ ba .upper-is) in
+      let upper = same-some (ab .upper) (ba .lower) (sym (ab .upper-is) ∙ ba .lower-is) in
       distinct-place ls d a b (ab .upper) (ab .lower) (ab .upper-is) (ab .lower-is)
       (covers-same (ab .upper) (ab .lower) (ab .covered) (rw (lower, upper) (ba .covered)));
   upper-level = λ a b h. let ab = dominates-parts ls a b h in nth-within ls a (ab .upper) (ab .upper-is);

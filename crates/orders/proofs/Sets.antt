@@ -2,13 +2,12 @@
 use mathlib.Core.Bool.{true}
 use mathlib.Core.Logic.{inl, inr}
 use mathlib.Core.Path.{_≡_, sym, ap, ap₂, _∙_}
-use Prim.Native.Nat.{ℕ, zero, suc, min, _+_, _*_, _/_, _%_, _^_, _<_, _≤_}
+use Prim.Native.Nat.{ℕ, zero, suc, min, _+_, _*_, _/_, _%_, _^_, _<_}
 use native.Mathlib.Nat.{mod-eq-of-lt, pow-suc}
 use native.Mathlib.Numerals.{one-add}
 use native.Mathlib.Omega.{arith}
 use lib.Bits.{bitAnd, and-shr, and-step, and-le-r}
-use lib.Dec.{eqb}
-use Rattle.std.proofs.shelf.Bits.{mod-pow-add, mod-below}
+use Rattle.std.proofs.shelf.Bits.{mod-pow-add}
 use Rattle.std.proofs.shelf.Tests.{eqb-true, eq-eqb, cases-eq}
 use Rattle.orders.specs.Bits.{bit}
 use Rattle.orders.specs.Labels.{includes}

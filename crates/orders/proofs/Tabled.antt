@@ -3,14 +3,11 @@ use mathlib.Core.Bool.{Bool, true, false, _&&_}
 use mathlib.Core.List.{List}
 use mathlib.Core.Path.{_≡_, refl}
 use Prim.Native.Nat.{ℕ, _<_, _≤_}
-use native.Mathlib.Omega.{arith}
 use lib.Dec.{ltb, eqb}
 use lib.ListN.{getD}
-use Rattle.std.specs.Orderings.{Decides}
 use Rattle.std.proofs.shelf.Tests.{and-parts, and-from, ltb-true, eqb-true, eq-eqb}
-use Rattle.std.proofs.shelf.Ways.{decides-and, decides-like}
 use Rattle.orders.specs.Bits.{bit}
-use Rattle.orders.specs.Orders.{Order, PartialOrder, every, implies, transitive-at, antisymmetric-at, lawful-pair, lawful-level, keeps-laws}
+use Rattle.orders.specs.Orders.{PartialOrder, every, implies, transitive-at, antisymmetric-at, lawful-pair, lawful-level, keeps-laws}
 use Rattle.orders.specs.Tables.{tabled}
 use Rattle.orders.proofs.Every.{every-decides}
 

@@ -8,7 +8,6 @@ use Rattle.std.specs.declared.result.Result.{Result}
 use Rattle.std.specs.declared.result.Result.the-variants.{Ok, Err}
 use Rattle.orders.specs.declared.refusal.OrderRefusal.{OrderRefusal}
 use Rattle.orders.specs.declared.refusal.OrderRefusal.the-variants.{LevelCount, LawBroken}
-use Rattle.orders.specs.Orders.{Order}
 
 -- the number under which a refusal is known outside
 abbrev pub number : OrderRefusal → ℕ

@@ -1,37 +1,30 @@
 -- The stamp that has k others before it is the one at which the counts of smaller and of no larger stamps lie on both
 -- sides of k; the counts do not depend on the order. Assumes nothing.
-use mathlib.Core.Bool.{Bool, true, false, cond, _&&_}
-use mathlib.Core.List.{List, [], _∷_, map}
-use mathlib.Core.Logic.{_⊎_, inl, inr}
+use mathlib.Core.Bool.{Bool, true, false}
+use mathlib.Core.List.{List, [], _∷_}
+use mathlib.Core.Logic.{inl, inr}
 use mathlib.Core.Path.{_≡_, refl, sym, ap, subst, _∙_}
 use Prim.Native.Nat.{ℕ, zero, suc, _+_, _<_, _≤_}
 use native.Mathlib.Omega.{arith}
 use lib.Dec.{leb, ltb}
 use lib.ListN.{length, getD, drop}
-use Rattle.std.specs.shelf.Lists.{All, Has, sumBy}
+use Rattle.std.specs.shelf.Lists.{All, sumBy}
 use Rattle.std.specs.shelf.Maps.{nth}
 use Rattle.std.specs.shelf.Sorted.{Shuffled}
+use Rattle.std.proofs.iter.runs.Lists.{none-some, same-some}
 use Rattle.std.proofs.shelf.Elements.{all-weaker, all-from-getD, has-getD}
 use Rattle.std.proofs.shelf.Lists.{length-map, getD-map, at-drop-more}
 use Rattle.std.proofs.shelf.Sorted.{length-shuffled, sumBy-shuffled}
 use Rattle.std.proofs.shelf.Sums.{sumBy-cons}
 use Rattle.std.proofs.shelf.Tests.{and-parts, and-from, leb-true, leb-false, ltb-true, le-leb, lt-ltb, le-ltb, cases-lt, cases-order, both-ways, cond-both}
-use Rattle.std.proofs.shelf.Ways.{tells}
 use Rattle.std.proofs.shelf.Maps.{nth-getD, nth-past}
-use Rattle.std.specs.declared.option.Option.{Option}
 use Rattle.std.specs.declared.option.Option.the-variants.{Some, None}
 use Rattle.placements.specs.declared.entry.Entry.{Entry}
 use Rattle.placements.specs.Ranks.{stamps, slot, one-if, ascending, ranked, below, has-rank, Rank}
 
-none-some : {x : ℕ} → None ≡ Some x → ⊥
-none-some h = let z : _≡_ {A = ℕ} 0 1 = cc in omega arith
-
-same-some : {x y : ℕ} → Some x ≡ Some y → x ≡ y
-same-some h = cc
-
 all-at : (P : ℕ → Type 0) (xs : List ℕ) (k s : ℕ) → nth xs k ≡ Some s → All P xs → P s
-all-at P [] k s h a = absurd (none-some h)
-all-at P (x ∷ xs) zero s h a = let Q : ℕ → Type 0 = P in subst Q (same-some h) (a .0)
+all-at P [] k s h a = absurd (none-some s h)
+all-at P (x ∷ xs) zero s h a = let Q : ℕ → Type 0 = P in subst Q (same-some x s h) (a .0)
 all-at P (x ∷ xs) (suc k) s h a = all-at P xs k s h (a .1)
 
 -- sorting keeps the length, the counts and what holds of each
@@ -127,9 +120,9 @@ one-between xs k s t p q =
 
 -- in a rising list, at each place
 between-rising : (ys : List ℕ) → Rising ys → (k s : ℕ) → nth ys k ≡ Some s → Between ys k s
-between-rising [] r k s h = absurd (none-some h)
+between-rising [] r k s h = absurd (none-some s h)
 between-rising (y ∷ zs) r zero s h =
-    let e : y ≡ s = same-some h in
+    let e : y ≡ s = same-some y s h in
     record {
       smaller = omega (arith, e, passed-over y s (omega (arith, e)), none-below s zs (rw e at (r .0)));
       no-larger = omega (arith, counted y (s + 1) (omega (arith, e)));

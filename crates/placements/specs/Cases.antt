@@ -1,7 +1,6 @@
 -- Worked cases of degrees. Assumes nothing.
 use mathlib.Core.Bool.{Bool, _&&_}
 use mathlib.Core.List.{List, [], _∷_}
-use Prim.Native.Nat.{ℕ}
 use lib.Dec.{eqb}
 use Rattle.placements.specs.declared.entry.Entry.{Entry}
 use Rattle.placements.specs.Placings.{by-degree}

@@ -1,7 +1,6 @@
 -- Stamps in their order, and how many of them a degree passes over. Assumes nothing.
 use mathlib.Core.Bool.{Bool, true, false, cond, _&&_}
 use mathlib.Core.List.{List, [], _∷_, map}
-use mathlib.Core.Path.{_≡_}
 use Prim.Native.Nat.{ℕ, min, _+_, _*_, _/_, _<_, _≤_}
 use lib.Dec.{leb, ltb}
 use Rattle.std.specs.shelf.Lists.{Has}

@@ -1,13 +1,13 @@
 -- A drawer's items before and after an edit. Assumes nothing.
-use mathlib.Core.Bool.{true, false, cond, _&&_}
+use mathlib.Core.Bool.{true, false}
 use mathlib.Core.List.{List, [], _∷_, map}
-use mathlib.Core.Path.{_≡_, refl, sym, ap, ap₂, _∙_}
+use mathlib.Core.Path.{_≡_, sym, ap, ap₂, _∙_}
 use Prim.Native.Nat.{ℕ, _<_, _≤_}
 use native.Mathlib.Omega.{arith}
 use lib.ListN.{length, getD, set, take}
 use Rattle.std.specs.shelf.Lists.{All}
 use Rattle.std.specs.shelf.Maps.{nth}
-use Rattle.std.specs.declared.option.Option.the-variants.{Some, None}
+use Rattle.std.specs.declared.option.Option.the-variants.{Some}
 use Rattle.std.proofs.iter.runs.Lists.{nth-read, nth-within, same-some}
 use Rattle.std.proofs.shelf.Elements.{all-map}
 use Rattle.std.proofs.shelf.Lists.{length-take-le}
@@ -16,7 +16,7 @@ use Rattle.shelves.specs.declared.drawer.Drawer.{Drawer}
 use Rattle.shelves.specs.declared.drawer.Row.{Row}
 use Rattle.shelves.specs.declared.edit.Edit.{Edit}
 use Rattle.shelves.specs.Drawers.{row-item, drawer-items, RowEdited, DrawerEdited}
-use Rattle.shelves.specs.Edits.{fits, count-after, edited, accepts, row-after, places-after}
+use Rattle.shelves.specs.Edits.{fits, count-after, edited, accepts, row-after}
 use Rattle.shelves.specs.Items.{Item, ShelfLaws, has-room, accepts-in, accepts-at, item-after, items-with, items-after}
 use Rattle.shelves.specs.Rows.{keeps-rule}
 use Rattle.shelves.proofs.Fronts.{set-same, length-front, map-at, map-past, map-front-set}

@@ -1,14 +1,13 @@
 -- An edit of eight places makes of the row at their front what it makes of a list. Assumes nothing.
-use mathlib.Core.Bool.{Bool, true, false, cond, _&&_}
-use mathlib.Core.List.{List, map}
+use mathlib.Core.Bool.{true, false, cond, _&&_}
+use mathlib.Core.List.{List}
 use mathlib.Core.Logic.{inl, inr}
-use mathlib.Core.Path.{_≡_, refl, sym, ap, ap₂, _∙_}
+use mathlib.Core.Path.{_≡_, sym, ap, ap₂, _∙_}
 use Prim.Native.Nat.{ℕ, _+_, _-_, _<_, _≤_}
 use native.Mathlib.Omega.{arith}
 use lib.Dec.{eqb, leb, ltb}
 use lib.ListN.{length, getD, set, take}
-use Rattle.std.specs.Iters.{counting}
-use Rattle.std.specs.shelf.Lists.{inserted, removed}
+use Rattle.std.specs.shelf.Lists.{inserted}
 use Rattle.std.proofs.shelf.Counted.{length-map-counting, getD-map-counting}
 use Rattle.std.proofs.shelf.Edits.{length-inserted, getD-inserted-below, getD-inserted-at, getD-inserted-above, length-removed, getD-removed-below, getD-removed-above}
 use Rattle.std.proofs.shelf.Lists.{ext-getD, length-set, length-take-le, getD-take, getD-set-same, getD-set-other}

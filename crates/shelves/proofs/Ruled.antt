@@ -1,32 +1,26 @@
 -- The test of the row rule decides the rule, and the steps of the loops that compute it. Assumes nothing.
-use mathlib.Core.Bool.{Bool, true, false, _&&_, _||_}
+use mathlib.Core.Bool.{true, _&&_, _||_}
 use mathlib.Core.List.{List, [], _∷_}
 use mathlib.Core.Logic.{inl, inr}
-use mathlib.Core.Path.{_≡_, refl, sym, ap, subst, _∙_}
+use mathlib.Core.Path.{_≡_, refl, ap, subst, _∙_}
 use Prim.Native.Nat.{ℕ, zero, suc, _+_, _-_, _<_, _≤_}
 use native.Mathlib.Omega.{arith}
 use lib.Dec.{leb, ltb}
 use lib.ListN.{length, getD, drop}
 use Rattle.std.specs.Orderings.{Decides}
-use Rattle.std.specs.shelf.Lists.{Has, At}
+use Rattle.std.specs.shelf.Lists.{Has}
 use Rattle.std.specs.shelf.Maps.{nth}
+use Rattle.std.proofs.iter.runs.Lists.{none-some, same-some}
 use Rattle.std.proofs.shelf.Elements.{has-getD}
-use Rattle.std.proofs.shelf.Lists.{at-drop-more, at-drop-all, drop-more, drop-all}
-use Rattle.std.proofs.shelf.Tests.{and-parts, and-from, leb-true, ltb-true, le-leb, lt-ltb, cases-lt}
+use Rattle.std.proofs.shelf.Lists.{at-drop-more, drop-more, drop-all}
+use Rattle.std.proofs.shelf.Tests.{and-parts, and-from, leb-true, ltb-true, le-leb, lt-ltb, cases-lt, false≢true}
 use Rattle.std.proofs.shelf.Ways.{decides-by-or}
-use Rattle.std.specs.declared.option.Option.{Option}
-use Rattle.std.specs.declared.option.Option.the-variants.{Some, None}
+use Rattle.std.specs.declared.option.Option.the-variants.{Some}
 use Rattle.shelves.specs.declared.version.State.{State}
 use Rattle.shelves.specs.declared.version.State.the-variants.{Committed, Pending}
 use Rattle.shelves.specs.declared.version.Version.{Version}
 use Rattle.shelves.specs.Edits.{blank}
 use Rattle.shelves.specs.Rows.{is-committed, goes-before, leads, in-order, any-committed, keeps-rule, RowRule}
-
-none-some : {x : Version} → None ≡ Some x → ⊥
-none-some h = let z : _≡_ {A = ℕ} 0 1 = cc in omega arith
-
-same-some : {x y : Version} → Some x ≡ Some y → x ≡ y
-same-some h = cc
 
 -- the loops
 pub committed-more : (vs : List Version) (i : ℕ) → i < length vs
@@ -66,8 +60,8 @@ before-decides v w = (
 
 -- the first version goes before all others
 before-far : (v : Version) (vs : List Version) → leads v vs ≡ true → in-order vs ≡ true → (j : ℕ) (w : Version) → nth vs j ≡ Some w → Before v w
-before-far v [] l o j w h = absurd (none-some h)
-before-far v (x ∷ xs) l o zero w h = subst (λ y. Before v y) (same-some h) (before-decides v x .0 l)
+before-far v [] l o j w h = absurd (none-some w h)
+before-far v (x ∷ xs) l o zero w h = subst (λ y. Before v y) (same-some x w h) (before-decides v x .0 l)
 before-far v (x ∷ xs) l o (suc j) w h =
     let p = and-parts (leads x xs) (in-order xs) o in
     let near = before-decides v x .0 l in
@@ -75,11 +69,11 @@ before-far v (x ∷ xs) l o (suc j) w h =
     record { number = omega (arith, near .number, far .number); stamp = omega (arith, near .stamp, far .stamp) }
 
 order-pairs : (vs : List Version) → in-order vs ≡ true → (i j : ℕ) (v w : Version) → i < j → nth vs i ≡ Some v → nth vs j ≡ Some w → Before v w
-order-pairs [] o i j v w l p q = absurd (none-some p)
+order-pairs [] o i j v w l p q = absurd (none-some v p)
 order-pairs (x ∷ xs) o i zero v w l p q = absurd (omega arith)
 order-pairs (x ∷ xs) o zero (suc j) v w l p q =
     let a = and-parts (leads x xs) (in-order xs) o in
-    subst (λ y. Before y w) (same-some p) (before-far x xs (a .0) (a .1) j w q)
+    subst (λ y. Before y w) (same-some x v p) (before-far x xs (a .0) (a .1) j w q)
 order-pairs (x ∷ xs) o (suc i) (suc j) v w l p q =
     let a = and-parts (leads x xs) (in-order xs) o in
     order-pairs xs (a .1) i j v w (omega arith) p q
@@ -93,7 +87,7 @@ pairs-order (x ∷ y ∷ zs) h =
 
 committed-state : (s : State) → Decides (is-committed s) (s ≡ Committed)
 committed-state Committed = (λ _. refl, λ _. refl)
-committed-state Pending = (λ h. let z : _≡_ {A = ℕ} 0 1 = cc in absurd (omega arith), λ h. let z : _≡_ {A = ℕ} 0 1 = cc in absurd (omega arith))
+committed-state Pending = (λ h. absurd (false≢true h), λ h. absurd (false≢true (ap is-committed h)))
 
 committed-decides : (vs : List Version) → Decides (any-committed vs) ((v : Version) × Has vs v × (v .state ≡ Committed))
 committed-decides vs =

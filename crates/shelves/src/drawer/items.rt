@@ -1,13 +1,12 @@
 // The items of a drawer.
-ghost use lib.ListN.{length};
 ghost use mathlib.Core.Bool.{true, false};
-ghost use mathlib.Core.List.{[], _∷_, _++_};
+ghost use mathlib.Core.List.{[]};
 ghost use mathlib.Core.Path.{_≡_};
 ghost use Rattle.std.specs.Options.{mapped};
 ghost use Rattle.std.specs.Results.{isErr};
 ghost use Rattle.std.specs.shelf.Maps.{nth};
 ghost use Rattle.shelves.specs.Drawers.{row-item, drawer-items, DrawerEdited};
-ghost use Rattle.shelves.specs.Items.{accepts-at, items-after, first-item, level-of, row-of, add-answer, items-with-new};
+ghost use Rattle.shelves.specs.Items.{accepts-at, items-after, add-answer, items-with-new};
 use crate::drawer::Drawer;
 use crate::drawer::Row;
 use crate::edit::Edit;

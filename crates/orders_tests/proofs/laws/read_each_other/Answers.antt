@@ -1,5 +1,4 @@
 use mathlib.Core.Path.{sym, _∙_}
-use borrow.Author.Needs.{needs}
 use Rattle.orders_tests.proofs.laws.read_each_other.Needs as need
 
 pub returns-then-dominates : need.returns-then-dominates

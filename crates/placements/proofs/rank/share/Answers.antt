@@ -1,7 +1,7 @@
-use mathlib.Core.Path.{_≡_, sym, ap, subst, _∙_}
-use Prim.Native.Nat.{ℕ, _+_, _/_}
+use mathlib.Core.Path.{_≡_, ap, _∙_}
+use Prim.Native.Nat.{_+_, _/_}
 use native.Mathlib.Omega.{arith}
-use Rattle.placements.specs.Ranks.{share, LeastShare}
+use Rattle.placements.specs.Ranks.{share}
 use Rattle.placements.proofs.Shares.{share-within, least-share}
 use Rattle.placements.proofs.rank.share.Needs as need
 

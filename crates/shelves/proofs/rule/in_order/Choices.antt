@@ -1,5 +1,5 @@
 use mathlib.Core.Path.{_≡_}
-use Prim.Native.Nat.{_-_, _≤_}
+use Prim.Native.Nat.{_-_}
 use lib.ListN.{drop}
 use Rattle.shelves.specs.Rows.{in-order}
 use Rattle.shelves.proofs.rule.in_order.Given as given

@@ -1,12 +1,12 @@
 use mathlib.Core.Bool.{cond}
 use mathlib.Core.List.{[], _∷_, _++_}
-use mathlib.Core.Path.{_≡_, refl, sym, ap, _∙_}
-use Prim.Native.Nat.{ℕ}
+use mathlib.Core.Path.{refl, sym, ap, _∙_}
 use native.Mathlib.Omega.{arith}
 use Rattle.std.specs.declared.result.Result.the-variants.{Ok, Err}
+use Rattle.std.proofs.shelf.Tests.{false≢true}
 use Rattle.shelves.specs.declared.refusal.ShelfRefusal.the-variants.{DrawerFull}
 use Rattle.shelves.specs.Drawers.{row-item, drawer-items}
-use Rattle.shelves.specs.Items.{Item, first-item}
+use Rattle.shelves.specs.Items.{first-item}
 use Rattle.shelves.proofs.Drawn.{no-room, room-left}
 use Rattle.shelves.proofs.Fronts.{map-front-push}
 use Rattle.shelves.proofs.drawer.Drawer.add.Needs as need
@@ -31,5 +31,5 @@ returns c =
           map-front-push (d .count) (d .rows) (omega arith) row-item (c .new-row .result) (omega arith)
           ∙ ap (λ it. drawer-items d ++ it ∷ []) (c .new-row .ensures)
           ∙ ap (λ b. cond b (drawer-items d ++ first-item (c .args .level) (c .args .value) ∷ []) (drawer-items d)) (sym room);
-      refused = λ h. let z : _≡_ {A = ℕ} 0 1 = cc in absurd (omega arith);
+      refused = λ h. absurd (false≢true h);
     }

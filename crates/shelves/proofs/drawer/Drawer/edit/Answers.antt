@@ -1,10 +1,8 @@
-use mathlib.Core.Path.{_≡_, refl, sym, ap, _∙_}
-use Prim.Native.Nat.{ℕ}
+use mathlib.Core.Path.{refl, sym}
 use native.Mathlib.Omega.{arith}
 use lib.ListN.{getD}
-use Rattle.std.specs.declared.option.Option.the-variants.{Some}
 use Rattle.std.proofs.iter.runs.Lists.{nth-read}
-use Rattle.shelves.specs.Drawers.{DrawerEdited}
+use Rattle.std.proofs.shelf.Tests.{true≢false, false≢true}
 use Rattle.shelves.proofs.Drawn.{unknown-item, refused-edit, accepted-edit}
 use Rattle.shelves.proofs.drawer.Drawer.edit.Needs as need
 
@@ -15,7 +13,7 @@ returns-then-item-self c =
       answer = sym (k .answer);
       after = sym (k .after);
       refused = λ _. refl;
-      step = λ h. let z : _≡_ {A = ℕ} 0 1 = cc in absurd (omega arith);
+      step = λ h. absurd (false≢true h);
     }
 
 pub returns-in-None : need.returns-in-None
@@ -25,7 +23,7 @@ returns-in-None c =
       answer = sym (k .answer);
       after = sym (k .after);
       refused = λ _. refl;
-      step = λ h. let z : _≡_ {A = ℕ} 0 1 = cc in absurd (omega arith);
+      step = λ h. absurd (false≢true h);
     }
 
 pub returns-in-Some : need.returns-in-Some
@@ -38,7 +36,7 @@ returns-in-Some c =
     record {
       answer = sym (k .answer);
       after = k .after;
-      refused = λ h. let z : _≡_ {A = ℕ} 0 1 = cc in absurd (omega arith);
+      refused = λ h. absurd (true≢false h);
       step = λ _. record {
         before = r;
         after = c .in-Some .next;

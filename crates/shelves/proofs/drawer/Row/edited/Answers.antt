@@ -1,9 +1,8 @@
-use mathlib.Core.Bool.{Bool}
-use mathlib.Core.Path.{_≡_, refl, sym, ap, ap₂, _∙_}
+use mathlib.Core.Path.{_≡_, refl, sym, ap₂, _∙_}
 use Prim.Native.Nat.{_-_}
 use native.Mathlib.Omega.{arith}
 use lib.ListN.{take}
-use Rattle.shelves.specs.Edits.{accepts, count-after, places-after}
+use Rattle.shelves.specs.Edits.{count-after}
 use Rattle.shelves.specs.Rows.{keeps-rule}
 use Rattle.shelves.proofs.Placed.{accepts-places, accepts-no-ninth}
 use Rattle.shelves.proofs.drawer.Row.edited.Needs as need
