@@ -1,8 +1,7 @@
 // Chains: each refusal, and who dominates whom.
-use crate::rows::row;
+use crate::rows::is_order;
 use orders::Chain;
 use orders::ChainOrder;
-use orders::LevelOrder;
 use orders::OrderRefusal;
 use orders::OrderRefusalDebug;
 use orders::OrderRefusalPartialEq;
@@ -10,19 +9,19 @@ use std::test::*;
 
 #[test]
 fn level_counts() -> Result<(), Fail> {
-    check_eq(Chain::new(0).err(), Some(OrderRefusal::LevelCount))?;
-    check_eq(Chain::new(17).err(), Some(OrderRefusal::LevelCount))?;
-    check_eq(Chain::new(1)?.levels(), 1)?;
-    check_eq(Chain::new(16)?.levels(), 16)?;
+    for levels in [0, 17, 255] {
+        check_eq(Chain::new(levels).err(), Some(OrderRefusal::LevelCount))?;
+    }
+    is_order(&Chain::new(1)?, 1, &[(0, 1), (1, 0)])?;
+    is_order(&Chain::new(16)?, 16, &[(0, 1), (15, 0xffff), (16, 0)])?;
     check_eq(OrderRefusal::LevelCount.number(), 1)
 }
 
 #[test]
 fn each_dominates_those_below() -> Result<(), Fail> {
-    let chain = Chain::new(3)?;
-    check_eq(row(&chain, 0), 0b001)?;
-    check_eq(row(&chain, 1), 0b011)?;
-    check_eq(row(&chain, 2), 0b111)?;
-    check_eq(row(&chain, 3), 0)?;
-    check(!chain.dominates(255, 255))
+    is_order(
+        &Chain::new(3)?,
+        3,
+        &[(0, 0b001), (1, 0b011), (2, 0b111), (3, 0), (255, 0)],
+    )
 }

@@ -1,46 +1,32 @@
 // Walls: each refusal with the builder after it, the four labels, and who dominates whom.
-use crate::rows::row;
+use crate::rows::is_order;
 use orders::Label;
-use orders::LevelOrder;
 use orders::OrderRefusal;
 use orders::OrderRefusalDebug;
 use orders::OrderRefusalPartialEq;
-use orders::Walls;
 use orders::WallsBuilder;
 use orders::WallsOrder;
 use std::test::*;
 
-fn four_labels() -> Result<WallsBuilder, OrderRefusal> {
+// A builder that was given these ranks and walls.
+fn built(labels: &[(u8, u16)]) -> Result<WallsBuilder, OrderRefusal> {
     let mut builder = WallsBuilder::new();
-    builder.add(Label { rank: 0, walls: 0 })?;
-    builder.add(Label { rank: 1, walls: 1 })?;
-    builder.add(Label { rank: 1, walls: 2 })?;
-    builder.add(Label { rank: 2, walls: 3 })?;
-    Ok(builder)
-}
-
-fn are_the_four(walls: Walls) -> Result<(), Fail> {
-    check_eq(walls.levels(), 4)?;
-    check_eq(row(&walls, 0), 0b0001)?;
-    check_eq(row(&walls, 1), 0b0011)?;
-    check_eq(row(&walls, 2), 0b0101)?;
-    check_eq(row(&walls, 3), 0b1111)?;
-    check_eq(row(&walls, 4), 0)
-}
-
-// As many labels of one rank as `count`, with the walls 0, 1, 2 and so on.
-fn labels(count: u16) -> Result<WallsBuilder, OrderRefusal> {
-    let mut builder = WallsBuilder::new();
-    for walls in 0..count {
-        builder.add(Label { rank: 7, walls })?;
+    for (rank, walls) in labels {
+        builder.add(Label {
+            rank: *rank,
+            walls: *walls,
+        })?;
     }
     Ok(builder)
 }
 
+const FOUR: [(u8, u16); 4] = [(0, 0), (1, 1), (1, 2), (2, 3)];
+
+const FOUR_ROWS: [(u8, u16); 5] = [(0, 0b0001), (1, 0b0011), (2, 0b0101), (3, 0b1111), (4, 0)];
+
 #[test]
 fn walls_keep_apart() -> Result<(), Fail> {
-    let builder = four_labels()?;
-    are_the_four(builder.finish()?)
+    is_order(&built(&FOUR)?.finish()?, 4, &FOUR_ROWS)
 }
 
 #[test]
@@ -53,43 +39,45 @@ fn no_label() -> Result<(), Fail> {
 
 #[test]
 fn an_equal_label_changes_nothing() -> Result<(), Fail> {
-    let mut builder = four_labels()?;
-    check_eq(
-        builder.add(Label { rank: 1, walls: 2 }),
-        Err(OrderRefusal::LawBroken),
-    )?;
-    are_the_four(builder.finish()?)?;
+    let mut builder = built(&FOUR)?;
+    for (rank, walls) in FOUR {
+        check_eq(
+            builder.add(Label { rank, walls }),
+            Err(OrderRefusal::LawBroken),
+        )?;
+    }
+    is_order(&builder.finish()?, 4, &FOUR_ROWS)?;
     check_eq(OrderRefusal::LawBroken.number(), 2)
 }
 
 #[test]
-fn a_refused_builder_goes_on() -> Result<(), Fail> {
-    let mut builder = labels(1)?;
+fn a_builder_goes_on() -> Result<(), Fail> {
+    let mut builder = built(&[(7, 0)])?;
+    let walls = builder.finish()?;
     check_eq(
         builder.add(Label { rank: 7, walls: 0 }),
         Err(OrderRefusal::LawBroken),
     )?;
     check_eq(builder.add(Label { rank: 8, walls: 0 }), Ok(()))?;
-    let walls = builder.finish()?;
-    check_eq(walls.levels(), 2)?;
-    check_eq(builder.add(Label { rank: 7, walls: 1 }), Ok(()))?;
-    check_eq(builder.finish()?.levels(), 3)?;
-    check_eq(row(&walls, 1), 0b11)
+    is_order(&walls, 1, &[(0, 1), (1, 0)])?;
+    is_order(&builder.finish()?, 2, &[(0, 1), (1, 0b11), (2, 0)])
 }
 
 #[test]
 fn a_seventeenth_label_changes_nothing() -> Result<(), Fail> {
-    let mut builder = labels(16)?;
-    check_eq(
-        builder.add(Label { rank: 7, walls: 16 }),
-        Err(OrderRefusal::LevelCount),
-    )?;
-    check_eq(
-        builder.add(Label { rank: 7, walls: 3 }),
-        Err(OrderRefusal::LevelCount),
-    )?;
-    let walls = builder.finish()?;
-    check_eq(walls.levels(), 16)?;
-    check_eq(row(&walls, 5), 0b0011_0011)?;
-    check_eq(row(&walls, 15), 0xffff)
+    let mut builder = WallsBuilder::new();
+    for walls in 0..16 {
+        check_eq(builder.add(Label { rank: 7, walls }), Ok(()))?;
+    }
+    for walls in [16, 3] {
+        check_eq(
+            builder.add(Label { rank: 7, walls }),
+            Err(OrderRefusal::LevelCount),
+        )?;
+    }
+    is_order(
+        &builder.finish()?,
+        16,
+        &[(5, 0b0011_0011), (15, 0xffff), (16, 0)],
+    )
 }
