@@ -1,4 +1,4 @@
 mod Drawn
-mod Fronts
-mod Placed
-mod Ruled
+pub mod Fronts
+pub mod Placed
+pub mod Ruled

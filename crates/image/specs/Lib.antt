@@ -1,0 +1,4 @@
+pub mod Faults
+pub mod Images
+pub mod Layout
+pub mod Opened
