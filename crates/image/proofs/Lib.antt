@@ -1,3 +1,7 @@
+mod After
 mod Counted
+mod Deciding
+mod Decoded
 mod Known
+mod Pasted
 mod Sound

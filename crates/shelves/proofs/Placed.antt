@@ -18,7 +18,7 @@ use Rattle.shelves.specs.declared.version.Version.{Version}
 use Rattle.shelves.specs.Edits.{fits, count-after, edited, accepts, blank, place-after, places-after}
 use Rattle.shelves.specs.Rows.{in-order, any-committed, keeps-rule}
 
-length-edited : (e : Edit) (vs : List Version) → fits e (length vs) ≡ true → length (edited e vs) ≡ count-after e (length vs)
+pub length-edited : (e : Edit) (vs : List Version) → fits e (length vs) ≡ true → length (edited e vs) ≡ count-after e (length vs)
 length-edited (Put p v) vs h = length-set vs p v
 length-edited (Insert p v) vs h = length-inserted vs p v (leb-true p (length vs) h)
 length-edited (Remove p) vs h = let l = ltb-true p (length vs) h in omega (arith, length-removed vs p l)
@@ -94,7 +94,7 @@ edited-front e vs n full few h room =
     ∙ sym (same-place vs n k (omega arith) few e h inside))
 
 -- a ninth version breaks the rule
-too-many : (e : Edit) (vs : List Version) → fits e (length vs) ≡ true → 8 < count-after e (length vs) → keeps-rule (edited e vs) ≡ false
+pub too-many : (e : Edit) (vs : List Version) → fits e (length vs) ≡ true → 8 < count-after e (length vs) → keeps-rule (edited e vs) ≡ false
 too-many e vs h l =
     let len = length-edited e vs h in
     and-left (leb 1 (length (edited e vs)) && leb (length (edited e vs)) 8) (in-order (edited e vs) && any-committed (edited e vs))

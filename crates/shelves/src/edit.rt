@@ -3,7 +3,7 @@ use crate::version::Version;
 
 mod places;
 
-pub(crate) use places::BLANK;
+pub use places::BLANK;
 
 #[derive(Clone, Copy)]
 pub enum Edit {

@@ -9,6 +9,7 @@ mod version;
 
 pub use drawer::Drawer;
 pub use drawer::DrawerShelf;
+pub use edit::BLANK;
 pub use edit::Edit;
 pub use refusal::ShelfRefusal;
 pub use refusal::ShelfRefusalDebug;

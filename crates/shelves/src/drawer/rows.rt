@@ -42,7 +42,7 @@ impl Row {
         if !edit.fits(self.count) {
             return None;
         }
-        let count = edit.count_after(self.count);
+        let count = edit.count_after(self.count as u8);
         if count > 8 {
             return None;
         }

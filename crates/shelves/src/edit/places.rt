@@ -1,5 +1,5 @@
 // What an edit makes of eight places, of which a row uses the first ones.
-ghost use Prim.Native.Nat.{_<_, _≤_};
+ghost use Prim.Native.Nat.{_<_};
 ghost use mathlib.Core.Path.{_≡_};
 ghost use Rattle.shelves.specs.Edits.{fits, count-after, place-after, places-after};
 use crate::edit::Edit;
@@ -7,7 +7,7 @@ use crate::version::State;
 use crate::version::Version;
 
 // A version of zeros.
-pub(crate) const BLANK: Version = Version {
+pub const BLANK: Version = Version {
     number: 0,
     stamp: 0,
     mark: 0,
@@ -28,10 +28,10 @@ impl Edit {
     }
 
     // How many versions there are afterwards.
-    pub(crate) fn count_after(self, count: usize) -> usize
-        requires { ⌜ count ≤ 8 ⌝ }
+    pub fn count_after(self, count: u8) -> usize
         ensures { λ r. ⌜ r ≡ count-after self count ⌝ }
     {
+        let count = count as usize;
         match self {
             Edit::Put(_, _) => count,
             Edit::Insert(_, _) => count + 1,
@@ -68,7 +68,7 @@ impl Edit {
     }
 
     // All eight places afterwards.
-    pub(crate) fn places_after(self, places: &[Version; 8]) -> [Version; 8]
+    pub fn places_after(self, places: &[Version; 8]) -> [Version; 8]
         ensures { λ r. ⌜ r ≡ places-after self (now (places .entry)) ⌝ }
     {
         let mut next = [BLANK; 8];
