@@ -1,9 +1,8 @@
 -- Whether an edit of an item is accepted, from what is read of its row. Assumes nothing.
-use mathlib.Core.Bool.{Bool, true, false}
+use mathlib.Core.Bool.{true, false}
 use mathlib.Core.List.{List}
-use mathlib.Core.Path.{_≡_, sym, ap, ap₂, _∙_}
+use mathlib.Core.Path.{_≡_, sym, ap, _∙_}
 use Prim.Native.Nat.{ℕ, _+_, _*_, _<_, _≤_}
-use native.Mathlib.Omega.{arith}
 use lib.ListN.{length, take}
 use Rattle.std.proofs.shelf.Counted.{length-map-counting}
 use Rattle.std.proofs.shelf.Tests.{and-left, and-right}
@@ -14,7 +13,7 @@ use Rattle.shelves.specs.declared.edit.Edit.{Edit}
 use Rattle.shelves.specs.declared.version.Version.{Version}
 use Rattle.shelves.proofs.Placed.{length-edited, edited-front, too-many, accepts-places}
 use Rattle.image.specs.Decided.{Decided}
-use Rattle.image.specs.Layout.{byte, version-at, item-count, used-at, row-start, row-at, item-at, image-items}
+use Rattle.image.specs.Layout.{byte, version-at, item-count, used-at, row-start, item-at, image-items}
 use Rattle.image.proofs.Counted.{nth-counted, nth-past-counted}
 
 module _ (bs : List ℕ) (i : ℕ) (e : Edit) where
@@ -35,7 +34,7 @@ module _ (bs : List ℕ) (i : ℕ) (e : Edit) where
   ninth-edit h f l =
       known-edit h
       ∙ and-right (fits e (length (item-at bs i .row))) (keeps-rule (edited e (item-at bs i .row)))
-          (too-many e (item-at bs i .row) (ap (fits e) long-row ∙ f) (rw long-row l))
+      (too-many e (item-at bs i .row) (ap (fits e) long-row ∙ f) (rw long-row l))
 
   module _ (ps : List Version) (full : length ps ≡ 8) (few : used-at bs i ≤ 8) (read : take (used-at bs i) ps ≡ item-at bs i .row)
       (fit : fits e (used-at bs i) ≡ true) (room : count-after e (used-at bs i) ≤ 8) where

@@ -6,12 +6,12 @@ use native.Mathlib.Nat.{add-zero}
 use native.Mathlib.Omega.{arith}
 use lib.ListN.{length, getD}
 use Rattle.std.specs.shelf.Lists.{All}
-use Rattle.std.proofs.shelf.Lists.{getD-append-left, getD-append-right}
+use Rattle.std.proofs.shelf.Lists.{getD-append-right}
 use Rattle.shelves.specs.declared.version.State.{State}
 use Rattle.shelves.specs.declared.version.State.the-variants.{Committed, Pending}
 use Rattle.shelves.specs.declared.version.Version.{Version}
 use Rattle.image.specs.Layout.{byte, field32, field64, state-of, version-at}
-use Rattle.image.specs.Writes.{bytes32, bytes64, state-number, version-bytes, row-bytes, VersionFits}
+use Rattle.image.specs.Writes.{state-number, version-bytes, row-bytes, VersionFits}
 
 -- fields depend on their bytes alone
 pub same32 : (bs cs : List ℕ) (a b : ℕ) → ((k : ℕ) → k < 4 → byte bs (a + k) ≡ byte cs (b + k)) → field32 bs a ≡ field32 cs b
@@ -22,10 +22,10 @@ same32 bs cs a b h =
 part : (bs cs : List ℕ) (a b n m : ℕ) → ((k : ℕ) → k < n → byte bs (a + k) ≡ byte cs (b + k)) → m + 4 ≤ n → field32 bs (a + m) ≡ field32 cs (b + m)
 part bs cs a b n m h l =
     same32 bs cs (a + m) (b + m)
-      (λ k j.
-        let e : a + m + k ≡ a + (m + k) = omega arith in
-        let f : b + (m + k) ≡ b + m + k = omega arith in
-        ap (byte bs) e ∙ h (m + k) (omega arith) ∙ ap (byte cs) f)
+    (λ k j.
+    let e : a + m + k ≡ a + (m + k) = omega arith in
+    let f : b + (m + k) ≡ b + m + k = omega arith in
+    ap (byte bs) e ∙ h (m + k) (omega arith) ∙ ap (byte cs) f)
 
 pub same-version : (bs cs : List ℕ) (a b : ℕ) → ((k : ℕ) → k < 24 → byte bs (a + k) ≡ byte cs (b + k)) → version-at bs a ≡ version-at cs b
 same-version bs cs a b h =
@@ -82,9 +82,9 @@ front-version v rest fit =
     let r : field32 (version-bytes v ++ rest) 8 ≡ v .mark = read-back (version-bytes v ++ rest) 8 (v .mark) record { d0 = refl; d1 = refl; d2 = refl; d3 = refl } (fit .mark) in
     let s : state-of (field32 (version-bytes v ++ rest) 12) ≡ v .state = ap state-of (front-state v rest) ∙ state-back (v .state) in
     let low : field32 (version-bytes v ++ rest) 16 ≡ v .value % 4294967296 =
-          read-back (version-bytes v ++ rest) 16 (v .value % 4294967296) record { d0 = refl; d1 = refl; d2 = refl; d3 = refl } (omega arith) in
+    read-back (version-bytes v ++ rest) 16 (v .value % 4294967296) record { d0 = refl; d1 = refl; d2 = refl; d3 = refl } (omega arith) in
     let high : field32 (version-bytes v ++ rest) 20 ≡ v .value / 4294967296 =
-          read-back (version-bytes v ++ rest) 20 (v .value / 4294967296) record { d0 = refl; d1 = refl; d2 = refl; d3 = refl } (omega (arith, fit .value)) in
+    read-back (version-bytes v ++ rest) 20 (v .value / 4294967296) record { d0 = refl; d1 = refl; d2 = refl; d3 = refl } (omega (arith, fit .value)) in
     let x : field64 (version-bytes v ++ rest) 16 ≡ v .value = ap₂ (λ a b. a + 4294967296 * b) low high ∙ wide (v .value) (fit .value) in
     λ i. record { number = n i; stamp = t i; mark = r i; state = s i; value = x i }
 
@@ -99,7 +99,7 @@ row-version [] fit j d h = absurd (omega arith)
 row-version (v ∷ vs) fit zero d h = front-version v (row-bytes vs) (fit .0)
 row-version (v ∷ vs) fit (suc j) d h =
     same-version (row-bytes (v ∷ vs)) (row-bytes vs) (24 * suc j) (24 * j)
-      (λ k l. let e : 24 * suc j + k ≡ 24 + (24 * j + k) = omega arith in ap (byte (row-bytes (v ∷ vs))) e ∙ behind-one v vs (24 * j + k))
+    (λ k l. let e : 24 * suc j + k ≡ 24 + (24 * j + k) = omega arith in ap (byte (row-bytes (v ∷ vs))) e ∙ behind-one v vs (24 * j + k))
     ∙ row-version vs (fit .1) j d (omega arith)
 
 pub row-state : (vs : List Version) (j : ℕ) → j < length vs → field32 (row-bytes vs) (24 * j + 12) ≤ 1
@@ -107,8 +107,8 @@ row-state [] j h = absurd (omega arith)
 row-state (v ∷ vs) zero h = omega (arith, front-state v (row-bytes vs), state-small (v .state))
 row-state (v ∷ vs) (suc j) h =
     let same : field32 (row-bytes (v ∷ vs)) (24 * suc j + 12) ≡ field32 (row-bytes vs) (24 * j + 12) =
-          same32 (row-bytes (v ∷ vs)) (row-bytes vs) (24 * suc j + 12) (24 * j + 12)
-            (λ k l. let e : 24 * suc j + 12 + k ≡ 24 + (24 * j + 12 + k) = omega arith in ap (byte (row-bytes (v ∷ vs))) e ∙ behind-one v vs (24 * j + 12 + k)) in
+    same32 (row-bytes (v ∷ vs)) (row-bytes vs) (24 * suc j + 12) (24 * j + 12)
+    (λ k l. let e : 24 * suc j + 12 + k ≡ 24 + (24 * j + 12 + k) = omega arith in ap (byte (row-bytes (v ∷ vs))) e ∙ behind-one v vs (24 * j + 12 + k)) in
     omega (arith, same, row-state vs j (omega arith))
 
 -- what is read fits

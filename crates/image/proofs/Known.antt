@@ -16,7 +16,7 @@ use Rattle.image.specs.Faults.{fault}
 use Rattle.image.specs.Images.{is-image}
 use Rattle.image.specs.Layout.{version-at, item-count, level-at, used-at, row-start, row-at, item-at, image-items, IsImage}
 use Rattle.image.proofs.Counted.{nth-counted, nth-past-counted}
-use Rattle.image.proofs.Sound.{fault-parts}
+use Rattle.image.proofs.Sound.{fault-parts, fault-none}
 
 none-if : (o : Option ℕ) → not (isSome o) ≡ true → o ≡ None
 none-if None h = refl
@@ -29,6 +29,9 @@ image-ok bs h = fault-parts bs (none-if (fault bs) h)
 pub ok-if-none : (bs : List ℕ) → fault bs ≡ None → is-image bs ≡ true
 unfolding is-image
 ok-if-none bs h = ap (λ o. not (isSome o)) h
+
+pub ok-image : (bs : List ℕ) → IsImage bs → is-image bs ≡ true
+ok-image bs m = ok-if-none bs (fault-none bs m)
 
 module _ (bs : List ℕ) where
   pub length-items : length (image-items bs) ≡ item-count bs

@@ -4,4 +4,5 @@ mod Deciding
 mod Decoded
 mod Known
 mod Pasted
+mod Shelved
 mod Sound

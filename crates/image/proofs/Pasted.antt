@@ -6,8 +6,8 @@ use native.Mathlib.Nat.{add-zero}
 use native.Mathlib.Omega.{arith}
 use lib.Dec.{ltb}
 use lib.ListN.{length, getD, set, take, drop}
-use Rattle.std.proofs.shelf.Edits.{sets, sets-eq}
-use Rattle.std.proofs.shelf.Lists.{length-append, length-take-le, length-drop, append-assoc, append-nil, take-append-drop, take-more, joined-more, take-at, drop-at, drop-append-le, take-append-le, drop-drop, getD-append-left, getD-append-right, getD-take, getD-drop}
+use Rattle.std.proofs.shelf.Edits.{sets-eq}
+use Rattle.std.proofs.shelf.Lists.{length-append, length-take-le, length-drop, append-assoc, take-append-drop, take-more, joined-more, take-at, drop-at, drop-drop, getD-append-left, getD-append-right, getD-take, getD-drop}
 use Rattle.std.proofs.shelf.Tests.{cond-true, lt-ltb}
 use Rattle.shelves.specs.Edits.{blank}
 use Rattle.shelves.specs.declared.version.Version.{Version}
@@ -47,11 +47,11 @@ module _ (bs : List ℕ) (at : ℕ) (ds : List ℕ) (room : at + length ds ≤ l
       let whole : take at bs ++ (ds ++ drop (at + length ds) bs) ≡ (take at bs ++ ds) ++ drop (at + length ds) bs = sym (append-assoc (take at bs) ds (drop (at + length ds) bs)) in
       let long : length (take at bs ++ ds) ≡ at + length ds = length-append (take at bs) ds ∙ ap (λ n. n + length ds) front in
       let head : take (at + length ds) (pasted bs at ds) ≡ take at bs ++ ds =
-            ap (take (at + length ds)) whole ∙ take-at (take at bs ++ ds) (drop (at + length ds) bs) (at + length ds) long in
+      ap (take (at + length ds)) whole ∙ take-at (take at bs ++ ds) (drop (at + length ds) bs) (at + length ds) long in
       let mid : drop (at + length ds) (pasted bs at ds) ≡ drop (at + length ds) bs =
-            ap (drop (at + length ds)) whole ∙ drop-at (take at bs ++ ds) (drop (at + length ds) bs) (at + length ds) long in
+      ap (drop (at + length ds)) whole ∙ drop-at (take at bs ++ ds) (drop (at + length ds) bs) (at + length ds) long in
       let tail : drop (at + length ds + length es) (pasted bs at ds) ≡ drop (at + length ds + length es) bs =
-            sym (drop-drop (length es) (at + length ds) (pasted bs at ds)) ∙ ap (drop (length es)) mid ∙ drop-drop (length es) (at + length ds) bs in
+      sym (drop-drop (length es) (at + length ds) (pasted bs at ds)) ∙ ap (drop (length es)) mid ∙ drop-drop (length es) (at + length ds) bs in
       let sum : at + length ds + length es ≡ at + length (ds ++ es) = omega (arith, length-append ds es) in
       ap₂ (λ x y. x ++ (es ++ y)) head tail
       ∙ append-assoc (take at bs) ds (es ++ drop (at + length ds + length es) bs)

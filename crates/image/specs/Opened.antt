@@ -9,6 +9,8 @@ use Rattle.std.specs.declared.result.Result.the-variants.{Ok, Err}
 use Rattle.shelves.specs.Items.{Item}
 use Rattle.image.specs.declared.opening.Image.{Image}
 use Rattle.image.specs.declared.opening.NotImage.{NotImage}
+use Rattle.shelves.specs.declared.edit.Edit.{Edit}
+use Rattle.image.specs.Decided.{BytesEdited}
 use Rattle.image.specs.Faults.{fault}
 use Rattle.image.specs.Layout.{image-items}
 
@@ -22,3 +24,7 @@ items-of m = image-items (bytes-of m)
 abbrev pub Opens : List ℕ → Result Image NotImage → Type 0
 Opens bs (Ok m) = (fault bs ≡ None) × (bytes-of m ≡ bs)
 Opens bs (Err e) = (fault bs ≡ Some (e .offset)) × (vec-items (e .bytes) ≡ bs)
+
+-- n is the image m after an accepted edit of item i, in all its bytes
+abbrev pub ImageEdited : Image → ℕ → Edit → Image → Type 0
+ImageEdited m i e n = BytesEdited (bytes-of m) i e (bytes-of n)

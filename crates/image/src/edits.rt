@@ -1,16 +1,16 @@
 // Edits of bytes that are an image.
 ghost use Prim.Native.Nat.{_+_, _*_, _<_, _≤_};
 ghost use lib.ListN.{length, take};
-ghost use mathlib.Core.Bool.{true, false};
+ghost use mathlib.Core.Bool.{false};
 ghost use mathlib.Core.Path.{_≡_};
 ghost use Rattle.std.specs.Options.{Cases as BySome};
 ghost use Rattle.shelves.specs.Edits.{edited};
 ghost use Rattle.shelves.specs.Items.{accepts-at};
-ghost use Rattle.image.specs.Decided.{Decided, EditFits, BytesEdited};
+ghost use Rattle.image.specs.Decided.{Decided};
 ghost use Rattle.image.specs.Layout.{item-count, row-at, item-at, image-items, IsImage};
 ghost use Rattle.image.specs.Writes.{bytes-after};
-use crate::field::read32;
 use crate::field::read_version;
+use crate::field::read32;
 use crate::write::replace_row;
 use shelves::BLANK;
 use shelves::Edit;
@@ -33,13 +33,13 @@ fn read_places(bytes: &[u8], start: usize, used: usize) -> [Version; 8]
 
 // Eight places, of which the first `count` are the row that an edit leaves.
 #[derive(Clone, Copy)]
-struct Next {
-    places: [Version; 8],
-    count: usize,
+pub(crate) struct Next {
+    pub places: [Version; 8],
+    pub count: usize,
 }
 
 // What an edit leaves, if it is accepted.
-fn decide(bytes: &[u8], item: u32, edit: Edit) -> Option<Next>
+pub(crate) fn decide(bytes: &[u8], item: u32, edit: Edit) -> Option<Next>
     requires { ⌜ IsImage (now bytes) ⌝ }
     ensures { λ r. ⌜ BySome r (accepts-at (image-items (now (bytes .entry))) item edit ≡ false) (λ next. Decided (now (bytes .entry)) item edit (next .places) (next .count)) ⌝ }
 {
@@ -64,7 +64,7 @@ fn decide(bytes: &[u8], item: u32, edit: Edit) -> Option<Next>
 }
 
 // Writes what was decided.
-fn write_edit(bytes: &mut [u8], item: u32, edit: Edit, versions: &[Version])
+pub(crate) fn write_edit(bytes: &mut [u8], item: u32, edit: Edit, versions: &[Version])
     requires image { ⌜ IsImage (now bytes) ⌝ }
     requires known { ⌜ item < item-count (now bytes) ⌝ }
     requires row { ⌜ now versions ≡ edited edit (item-at (now bytes) item .row) ⌝ }
@@ -75,23 +75,4 @@ fn write_edit(bytes: &mut [u8], item: u32, edit: Edit, versions: &[Version])
     let used = bytes[9 + 2 * item as usize] as usize;
     replace_row(bytes, start, used, versions);
     bytes[9 + 2 * item as usize] = versions.len() as u8;
-}
-
-// Edits an item if that is accepted.
-pub(crate) fn edit_at(bytes: &mut [u8], item: u32, edit: Edit) -> bool
-    requires image { ⌜ IsImage (now bytes) ⌝ }
-    requires fits { ⌜ EditFits edit ⌝ }
-    ensures answer { λ r. ⌜ r ≡ accepts-at (image-items (now (bytes .entry))) item edit ⌝ }
-    ensures refused { λ r. ⌜ (r ≡ false → now (bytes .exit) ≡ now (bytes .entry)) ⌝ }
-    ensures step { λ r. ⌜ (r ≡ true → BytesEdited (now (bytes .entry)) item edit (now (bytes .exit))) ⌝ }
-{
-    match decide(bytes, item, edit) {
-        None => false,
-        Some(next) => {
-            let places = next.places;
-            let count = next.count;
-            write_edit(bytes, item, edit, &places[0..count]);
-            true
-        }
-    }
 }

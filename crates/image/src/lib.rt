@@ -9,4 +9,5 @@ mod write;
 
 pub use faults::fault;
 pub use opening::Image;
+pub use opening::ImageShelf;
 pub use opening::NotImage;

@@ -5,7 +5,9 @@ ghost use Rattle.std.specs.Of.Vec.{vec-items};
 ghost use Rattle.image.specs.Images.{is-image};
 
 mod bytes;
-mod questions;
+mod shelf;
+
+pub use shelf::ImageShelf;
 
 #[derive(Drop)]
 pub struct Image {

@@ -11,15 +11,15 @@ use Rattle.std.specs.declared.option.Option.the-variants.{Some}
 use Rattle.std.proofs.iter.runs.Lists.{nth-read, nth-within, same-some}
 use Rattle.std.proofs.shelf.Elements.{all-map}
 use Rattle.std.proofs.shelf.Lists.{length-take-le}
-use Rattle.std.proofs.shelf.Tests.{and-parts, cond-true, cond-false, lt-ltb, le-ltb}
+use Rattle.std.proofs.shelf.Tests.{and-parts, cond-true, lt-ltb, le-ltb}
 use Rattle.shelves.specs.declared.drawer.Drawer.{Drawer}
 use Rattle.shelves.specs.declared.drawer.Row.{Row}
 use Rattle.shelves.specs.declared.edit.Edit.{Edit}
 use Rattle.shelves.specs.Drawers.{row-item, drawer-items, RowEdited, DrawerEdited}
 use Rattle.shelves.specs.Edits.{fits, count-after, edited, accepts, row-after}
-use Rattle.shelves.specs.Items.{Item, ShelfLaws, has-room, accepts-in, accepts-at, item-after, items-with, items-after}
+use Rattle.shelves.specs.Items.{ShelfLaws, has-room, accepts-in, accepts-at, item-after, items-with, items-after}
 use Rattle.shelves.specs.Rows.{keeps-rule}
-use Rattle.shelves.proofs.Fronts.{set-same, length-front, map-at, map-past, map-front-set}
+use Rattle.shelves.proofs.Fronts.{length-front, map-at, map-past, map-front-set}
 use Rattle.shelves.proofs.Placed.{edited-front}
 
 every-ruled : (rs : List Row) → All (λ r. keeps-rule (row-item r .row) ≡ true) rs
@@ -47,31 +47,15 @@ row-edited e r s x =
     ∙ sym (cond-true (accepts e (row-item r .row)) (edited e (row-item r .row)) (row-item r .row) (x .accepted)) in
     ap₂ (λ l v. record { level = l; row = v }) (x .level) row
 
--- an item whose edit is not accepted stays
-item-kept : (e : Edit) (it : Item) → accepts e (it .row) ≡ false → item-after e it ≡ it
-item-kept e it h = ap (λ v. record { level = it .level; row = v }) (cond-false (accepts e (it .row)) (edited e (it .row)) (it .row) h)
-
--- what is known of an edit that is not accepted
-pub record Kept (d : Drawer) (i : ℕ) (e : Edit) : Type 0 where
-  pub answer : accepts-at (drawer-items d) i e ≡ false
-  pub after : items-after (drawer-items d) i e ≡ drawer-items d
-
-pub unknown-item : (d : Drawer) (i : ℕ) (e : Edit) → d .count ≤ i → Kept d i e
-unknown-item d i e h =
-    let none = map-past (d .count) (d .rows) (omega arith) row-item i h in
-    record { answer = ap (accepts-in e) none; after = ap (items-with (drawer-items d) i e) none }
+-- edits that are not accepted
+pub unknown-item : (d : Drawer) (i : ℕ) (e : Edit) → d .count ≤ i → accepts-at (drawer-items d) i e ≡ false
+unknown-item d i e h = ap (accepts-in e) (map-past (d .count) (d .rows) (omega arith) row-item i h)
 
 pub refused-edit : (d : Drawer) (i : ℕ) (e : Edit) (r : Row) → i < d .count
-    → accepts e (row-item (getD (d .rows) i r) .row) ≡ false → Kept d i e
-refused-edit d i e r h not =
-    let it : Item = row-item (getD (d .rows) i r) in
-    let some = map-at (d .count) (d .rows) (omega arith) row-item i r h in
-    record {
-      answer = ap (accepts-in e) some ∙ not;
-      after = ap (items-with (drawer-items d) i e) some ∙ ap (set (drawer-items d) i) (item-kept e it not) ∙ set-same (drawer-items d) i it some;
-    }
+    → accepts e (row-item (getD (d .rows) i r) .row) ≡ false → accepts-at (drawer-items d) i e ≡ false
+refused-edit d i e r h not = ap (accepts-in e) (map-at (d .count) (d .rows) (omega arith) row-item i r h) ∙ not
 
--- what is known of one that is, which leaves row s
+-- what is known of one that is accepted, which leaves row s
 pub record Changed (d : Drawer) (i : ℕ) (e : Edit) (s : Row) : Type 0 where
   pub answer : accepts-at (drawer-items d) i e ≡ true
   pub after : map row-item (take (d .count) (set (d .rows) i s)) ≡ items-after (drawer-items d) i e

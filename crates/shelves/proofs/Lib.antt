@@ -2,3 +2,4 @@ mod Drawn
 pub mod Fronts
 pub mod Placed
 pub mod Ruled
+pub mod Stays

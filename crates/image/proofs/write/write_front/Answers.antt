@@ -1,7 +1,7 @@
-use mathlib.Core.Path.{ap, ap₂, _∙_}
+use mathlib.Core.Path.{ap, _∙_}
 use Prim.Native.Nat.{_+_}
 use native.Mathlib.Omega.{arith}
-use Rattle.image.specs.Writes.{bytes32, state-number, pasted}
+use Rattle.image.specs.Writes.{bytes32, pasted}
 use Rattle.image.proofs.Pasted.{then-pasted}
 use Rattle.image.proofs.write.write_front.Needs as need
 
