@@ -1,4 +1,6 @@
-// A drawer, its rows, and edits that are accepted or not.
+// A drawer and an image with the same first row, and the same edits on both.
+use image::Image;
+use image::ImageShelf;
 use shelves::Drawer;
 use shelves::DrawerShelf;
 use shelves::Shelf;
@@ -79,14 +81,32 @@ fn two_items() -> Result<Drawer, ShelfRefusal> {
     Ok(drawer)
 }
 
-pub fn print_rows(rt: &LibcRuntime) -> Result<(), AnyError> {
-    println!(
-        rt,
-        "Rows of a drawer, each version as number@stamp=value, with a star while it is pending."
-    )?;
+// An image of one item at level 0 with the first value 100.
+fn one_item(rt: &LibcRuntime) -> Result<Vec<u8>, AnyError> {
+    let mut bytes = vec![in rt.alloc(); 0u8; 202]?;
+    for (at, byte) in [(0, 1), (4, 202), (9, 1), (26, 100)] {
+        if at < bytes.len() {
+            bytes[at] = byte;
+        }
+    }
+    Ok(bytes)
+}
+
+fn print_image(rt: &LibcRuntime, bytes: Vec<u8>) -> Result<(), AnyError> {
+    match Image::open(bytes) {
+        Ok(mut image) => edit_and_print(rt, &mut image),
+        Err(refused) => {
+            let number = refused.number();
+            let offset = refused.offset;
+            println!(rt, "no image: {number}, offset {offset}")?;
+            Ok(())
+        }
+    }
+}
+
+fn print_drawer(rt: &LibcRuntime) -> Result<(), AnyError> {
     match two_items() {
-        Ok(drawer) => {
-            let mut drawer = drawer;
+        Ok(mut drawer) => {
             edit_and_print(rt, &mut drawer)?;
             print_row(rt, &drawer, 1)
         }
@@ -96,4 +116,23 @@ pub fn print_rows(rt: &LibcRuntime) -> Result<(), AnyError> {
             Ok(())
         }
     }
+}
+
+pub fn print_rows(rt: &LibcRuntime) -> Result<(), AnyError> {
+    println!(
+        rt,
+        "A drawer, each version as number@stamp=value, with a star while it is pending."
+    )?;
+    print_drawer(rt)?;
+    println!(rt, "An image with the same first row, edited alike.")?;
+    print_image(rt, one_item(rt)?)?;
+    println!(rt, "The same bytes with level 16, and without the last.")?;
+    let mut damaged = one_item(rt)?;
+    if damaged.len() > 8 {
+        damaged[8] = 16;
+    }
+    print_image(rt, damaged)?;
+    let mut shorter = one_item(rt)?;
+    shorter.truncate(201);
+    print_image(rt, shorter)
 }
