@@ -19,6 +19,7 @@ pub fn degrees_pass_over()
 
 // What any placement answers lies within its bounds.
 pub fn placed<P: Placement>(placement: &P, degree: u8, lo: u32, hi: u32, entries: &[Entry]) -> u32
+    ensures value { λ r. ⌜ r ≡ P·Placement .meaning (now (placement .entry)) degree lo hi (now (entries .entry)) ⌝ }
     ensures low { λ r. ⌜ lo ≤ r ⌝ }
     ensures high { λ r. ⌜ (lo ≤ hi → r ≤ hi) ⌝ }
     ensures empty { λ r. ⌜ (hi < lo → r ≡ lo) ⌝ }
