@@ -1,4 +1,5 @@
 // What a call looks at before it is decided: the active transactions at lower levels, and a version of a row.
+#![tactic(auto)]
 
 mod collected;
 mod placed;

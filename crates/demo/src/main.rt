@@ -1,6 +1,8 @@
 // Reads wall labels, a line each, builds the level order of those that are accepted, and prints the answer to each
 // line and the chart of who reads whom; then where a new transaction would stand under each placement,
 // and the same edits of a drawer and of an image.
+#![tactic(auto)]
+
 use chart::print_chart;
 use degrees::print_degrees;
 use labels::take_label;

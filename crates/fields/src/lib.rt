@@ -1,4 +1,5 @@
 // Numbers and versions in bytes.
+#![tactic(auto)]
 
 mod read;
 mod write;

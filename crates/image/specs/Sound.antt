@@ -2,7 +2,7 @@
 use Rattle.std.specs.Prelude.{◌≡◌, ℕ, zero, suc, ◌+◌, ◌-◌, ◌*◌, ◌<◌, ◌≤◌, Bool, true, false, not, ◌&&◌, ltb, leb, List, map, length, Some, None, Option, ◌==◌, nat_le, nat_lt, refl}
 use Rattle.std.proofs.Common.{inl, inr, sym, ap, ◌∙◌, add-zero, arith}
 use Rattle.std.specs.List.{range_with_len, slice_get}
-use Rattle.std.proofs.iter.runs.Lists.{none-some}
+use Rattle.std.proofs.lemmas.Option.{none-some}
 use Rattle.std.proofs.lemmas.List.FromFn.{length-map-range_with_len}
 use Rattle.std.proofs.lemmas.Bool.{and_parts, and_from, and_left, and_right, not-false, not_from_true, leb-true, leb-false, ltb-false, eqb-true, le-leb, lt-leb, lt-ltb, le-ltb, eq-eqb, cases_lt}
 use Rattle.shelves.specs.Rows.{goes_before, in_order, any_committed}

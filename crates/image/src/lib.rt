@@ -1,4 +1,5 @@
 // A shelf over bytes.
+#![tactic(auto)]
 
 mod edits;
 mod faults;

@@ -1,4 +1,6 @@
 // Tests of the image: damaged bytes with the offset of each fault, the same edits on an image and on a drawer, and rows laid out.
+#![tactic(auto)]
+
 ghost use Rattle.std.specs.Prelude.{◌≡◌, ◌+◌, ◌*◌};
 
 #[cfg(test)]

@@ -1,4 +1,5 @@
 // Level orders: who may read whom.
+#![tactic(auto)]
 
 mod chain;
 mod label;

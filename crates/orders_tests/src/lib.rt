@@ -1,4 +1,6 @@
 // Tests of the level orders, and generic code in a crate of its own that relies on their laws.
+#![tactic(auto)]
+
 ghost use Rattle.std.specs.Prelude.{◌≡◌, true};
 ghost use Rattle.orders.specs.Cases.{walls_keep_apart};
 

@@ -1,4 +1,5 @@
 // Placements: where on the clock's line a transaction stands.
+#![tactic(auto)]
 
 mod behind;
 mod clock;

@@ -1,4 +1,6 @@
 // Tests of the placements, and generic code in a crate of its own that relies on their bounds.
+#![tactic(auto)]
+
 ghost use Rattle.std.specs.Prelude.{◌≡◌, ◌<◌, ◌≤◌, true};
 ghost use Rattle.placements.specs.Cases.{share_rounds_up, degrees_pass_over};
 

@@ -1,7 +1,7 @@
 -- Calls that change nothing, ticks and reads keep the invariant. Assumes nothing.
 use Rattle.std.proofs.Common.{◌≡◌, ℕ, ◌<◌, ◌≤◌, true, false, not, eqb, ◌⊎◌, List, [], ◌∷◌, length, Some, None, Option, sym, refl, ap, ◌∙◌, subst, ap₂, inl, inr, arith}
 use Rattle.std.specs.List.{slice_get}
-use Rattle.std.proofs.iter.runs.Lists.{none-some}
+use Rattle.std.proofs.lemmas.Option.{none-some}
 use Rattle.std.proofs.lemmas.Bool.{cases_eq, ne_eqb, and_from, not_from_false, both_ways, leb-true, le-leb, ltb-true, lt-ltb, and_cases, not-false, eqb-true}
 use Rattle.orders.specs.Orders.{PartialOrder}
 use Rattle.shelves.specs.Items.{Item, level_in, row_in, level_of, row_of, items_after}

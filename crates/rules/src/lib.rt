@@ -1,4 +1,5 @@
 // What the scheduler must answer, as definitions, and what follows from them for every run.
+#![tactic(auto)]
 
 mod answer;
 mod call;

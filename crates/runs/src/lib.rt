@@ -1,4 +1,5 @@
 // One call of any kind, runs of many, and what is true of every run.
+#![tactic(auto)]
 
 mod running;
 mod sending;

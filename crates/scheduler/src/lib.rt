@@ -1,4 +1,5 @@
 // The scheduler: six calls over any order, any placement and any shelf.
+#![tactic(auto)]
 
 mod begin;
 mod end;

@@ -2,7 +2,7 @@
 use Rattle.std.specs.Prelude.{◌≡◌, ℕ, ◌<◌, ◌≤◌, true, false, List, [], ◌∷◌, map, length, get_or, take, set, Some, slice_index_or, slice_set}
 use Rattle.std.proofs.Common.{sym, ap, ap₂, ◌∙◌, arith}
 use Rattle.std.specs.List.{AllByRecursion as All, slice_get}
-use Rattle.std.proofs.iter.runs.Lists.{nth_read, slice_get_within, same_Some}
+use Rattle.std.proofs.lemmas.Option.{slice_get-get_or, slice_get_within, same_Some}
 use Rattle.std.proofs.ByRecursion.{All-map}
 use Rattle.std.proofs.lemmas.List.{length-take-le}
 use Rattle.std.proofs.lemmas.Bool.{and_parts, cond-true, lt-ltb, le-ltb}
@@ -56,7 +56,7 @@ pub record Changed (d : Drawer) (i : ℕ) (e : Edit) (s : Row) : Type 0 where
 
 pub accepted_edit : (d : Drawer) (i : ℕ) (e : Edit) (r s : Row) → i < d.count → slice_get d.rows i ≡ Some r → RowEdited e r s → Changed d i e s
 accepted_edit d i e r s known found x =
-    let is : get_or d.rows i r ≡ r = same_Some (slice_index_or d.rows i r) r (sym (nth_read d.rows i r (slice_get_within d.rows i r found)) ∙ found) in
+    let is : get_or d.rows i r ≡ r = same_Some (slice_index_or d.rows i r) r (sym (slice_get-get_or d.rows i r (slice_get_within d.rows i r found)) ∙ found) in
     let some : slice_get (drawer_items d) i ≡ Some (row_item r) =
     map_at d.count d.rows (omega arith) row_item i r known ∙ ap (λ q. Some (row_item q)) is in
     record {

@@ -1,4 +1,5 @@
 // Shelves: what holds the rows of versions.
+#![tactic(auto)]
 
 mod drawer;
 mod edit;

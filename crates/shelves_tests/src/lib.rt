@@ -1,5 +1,7 @@
 // Tests of the row rule and of the drawer, and generic code in a crate of its own that relies on what every shelf
 // promises.
+#![tactic(auto)]
+
 ghost use Rattle.std.specs.Prelude.{◌≡◌, ◌≤◌, length};
 
 use shelves::Shelf;

@@ -1,4 +1,5 @@
 // What a step decides of a row, and what it makes of a shelf.
+#![tactic(auto)]
 
 mod edit;
 mod end;

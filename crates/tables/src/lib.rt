@@ -1,4 +1,5 @@
 // The active transactions of one level: eight places, and the last number and stamp that were given.
+#![tactic(auto)]
 
 mod place;
 mod table;

@@ -15,7 +15,7 @@ trait Test {
 
 // Whether every level below `count` passes.
 fn every<T: Test>(test: &T, count: u8) -> bool
-    ensures { result ≡ every count (passes test.now) }
+    ensures { result ≡ every count (T.passes test.now) }
 {
     for level in 0..count {
         if !test.test(level) {

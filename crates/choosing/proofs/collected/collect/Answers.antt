@@ -21,10 +21,10 @@ loop-other-preserved g c =
           let passes : p i ≡ true = sym w.if-counts.ensures in
           let same = w.found-is in
           let step : take c.if-counts.found.count c.if-counts.found.list ≡ before ++ cond (p i) (actives i table.places) [] =
-          ap (λ (f : Collected). take f.count f.list) same ∙ w.push-places.ensures.list ∙ ap (λ (y : Table). before ++ actives i y.places) w.table-of-table.ensures ∙ ap (λ xs. before ++ xs) (sym (cond-true (p i) (actives i table.places) [] passes)) in (
+          ap (λ (f : Collected). take f.count f.list) same ∙ w.push_places.ensures.list ∙ ap (λ (y : Table). before ++ actives i y.places) w.table_of-table.ensures ∙ ap (λ xs. before ++ xs) (sym (cond-true (p i) (actives i table.places) [] passes)) in (
             levels_step p i c.args.tables.now before _ _ (omega arith) c.loop-other.invariant.0 step,
-            omega (arith, ap (λ (f : Collected). f.count) same, w.push-places.ensures.count, c.loop-other.invariant.1),
-            ap (λ (f : Collected). length f.list) same ∙ w.push-places.ensures.full,
+            omega (arith, ap (λ (f : Collected). f.count) same, w.push_places.ensures.count, c.loop-other.invariant.1),
+            ap (λ (f : Collected). length f.list) same ∙ w.push_places.ensures.full,
           )
       | else-counts w ↦
           let passes : p i ≡ false = sym w.if-counts.ensures in

@@ -6,9 +6,9 @@ use Rattle.choosing.proofs.collected.push_places.Goals as goal
 
 pub loop-at-preserved : goal.loop-at-preserved
 loop-at-preserved c = (
-  places_step c.args.level c.loop-at.at c.args.places.now _ _ _ (omega arith) c.loop-at.invariant.0 c.push-place.ensures.list,
-  omega (arith, c.loop-at.invariant.1, c.push-place.ensures.count),
-  c.push-place.ensures.full,
+  places_step c.args.level c.loop-at.at c.args.places.now _ _ _ (omega arith) c.loop-at.invariant.0 c.push_place.ensures.list,
+  omega (arith, c.loop-at.invariant.1, c.push_place.ensures.count),
+  c.push_place.ensures.full,
 )
 
 pub returns : goal.returns

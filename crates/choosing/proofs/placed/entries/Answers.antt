@@ -9,10 +9,10 @@ loop-at-preserved c =
     let i = c.loop-at.at in
     let xs = c.args.actives.now in
     let lt : i < length c.loop-at.list = omega (arith, c.loop-at.invariant.1) in (
-      take_more_set c.loop-at.list i c.entry-of.result lt
-          ∙ ap₂ (λ ys y. ys ++ (y ∷ [])) c.loop-at.invariant.0 c.entry-of.ensures
+      take_more_set c.loop-at.list i c.entry_of.result lt
+          ∙ ap₂ (λ ys y. ys ++ (y ∷ [])) c.loop-at.invariant.0 c.entry_of.ensures
           ∙ sym (map_more entry xs i nobody (omega arith)),
-      length-set c.loop-at.list i c.entry-of.result ∙ c.loop-at.invariant.1,
+      length-set c.loop-at.list i c.entry_of.result ∙ c.loop-at.invariant.1,
     )
 
 pub returns : goal.returns

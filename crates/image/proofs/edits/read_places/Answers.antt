@@ -10,8 +10,8 @@ pub loop-j-preserved : goal.loop-j-preserved
 loop-j-preserved c =
     let places = c.loop-j.places in
     let j = c.loop-j.j in (
-      length-set places j c.read-version.result ∙ c.loop-j.invariant.0,
-      λ k h. ap (λ v. get_or (set places j v) k blank) c.read-version.ensures
+      length-set places j c.read_version.result ∙ c.loop-j.invariant.0,
+      λ k h. ap (λ v. get_or (set places j v) k blank) c.read_version.ensures
           ∙ fill_by_more (λ m. version_at c.args.bytes.now (c.args.start + 24 * m)) places j blank (omega (arith, c.loop-j.invariant.0)) c.loop-j.invariant.1 k h,
     )
 

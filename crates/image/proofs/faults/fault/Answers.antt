@@ -5,7 +5,7 @@ use Rattle.image.proofs.faults.fault.Goals as goal
 pub returns : goal.returns
 returns c =
     let bs = c.args.bytes.now in
-    let value = c.first-fault.ensures in
+    let value = c.first_fault.ensures in
     record {
       value = value;
       sound = λ none. fault_parts bs (sym value ∙ none);

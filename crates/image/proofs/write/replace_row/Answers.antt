@@ -7,6 +7,6 @@ use Rattle.image.proofs.write.replace_row.Goals as goal
 pub returns-then-versions-used : goal.returns-then-versions-used
 returns-then-versions-used c =
     let vs = c.args.versions.now in
-    c.write-version.ensures.after
+    c.write_version.ensures.after
     ∙ ap (λ xs. pasted xs (c.args.start + 24 * length vs) (version_bytes blank)) c.write_row.ensures.after
     ∙ freed_pasted c.args.bytes.now c.args.start c.args.used vs (omega arith) c.if-versions-used.true

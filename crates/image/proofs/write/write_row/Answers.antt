@@ -15,11 +15,11 @@ loop-j-preserved c =
     let vs = c.args.versions.now in
     let j = c.loop-j.j in
     let at = c.args.start + 24 * j in (
-      c.write-version.ensures.after
+      c.write_version.ensures.after
           ∙ ap (λ xs. pasted xs at (version_bytes (get_or vs j blank))) c.loop-j.invariant.0
           ∙ row_pasted_more c.args.bytes.now c.args.start j vs blank c.requires c.loop-j-test.true,
       subst (All VersionFits) (sym (take_more vs j blank c.loop-j-test.true))
-          (All-append VersionFits (take j vs) (get_or vs j blank ∷ []) c.loop-j.invariant.1 (c.write-version.ensures.fits, tt)),
+          (All-append VersionFits (take j vs) (get_or vs j blank ∷ []) c.loop-j.invariant.1 (c.write_version.ensures.fits, tt)),
     )
 
 pub returns : goal.returns

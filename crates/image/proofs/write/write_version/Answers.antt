@@ -11,7 +11,7 @@ returns c =
     let front = bytes32 v.number ++ bytes32 v.stamp in
     let middle = bytes32 v.mark ++ bytes32 (state_number v.state) in
     let value = bytes64 v.value in
-    let both = c.write-middle.ensures ∙ ap (λ xs. pasted xs (at + 8) middle) c.write-front.ensures ∙ then_pasted bs at front (omega arith) middle (omega arith) in
+    let both = c.write_middle.ensures ∙ ap (λ xs. pasted xs (at + 8) middle) c.write_front.ensures ∙ then_pasted bs at front (omega arith) middle (omega arith) in
     record {
       after = c.write64.ensures ∙ ap (λ xs. pasted xs (at + 16) value) both ∙ then_pasted bs at (front ++ middle) (omega arith) value (omega arith);
       fits = record { number = omega arith; stamp = omega arith; mark = omega arith; value = omega arith };

@@ -8,5 +8,5 @@ loop-column-preserved g c =
     let a = c.args.level in
     let i = c.loop-column.column in
     let next : marks o a (i + 1) ≡ marks o a i ++ mark o a i = ap (marks o a) (add-one i) in
-    let bytes = c.in-ok-push-str.ensures.bytes in
+    let bytes = c.in_ok-push_str.ensures.bytes in
     cc

@@ -11,11 +11,11 @@ returns g c =
     let before = c.args.scheduler.now in
     let P = parts_of g.O.LevelOrder.meaning g.P.Placement.meaning before in
     let s = state_of g.S.Shelf.items before in
-    let t = state_of g.S.Shelf.items c.run-all.new.scheduler in
+    let t = state_of g.S.Shelf.items c.run_all.new.scheduler in
     let cs = c.args.calls.now in
-    let ran = c.run-all.ensures in
+    let ran = c.run_all.ensures in
     let lawful : Lawful P = record { order = g.met.O.LevelOrder.lawful before.order; placing = g.met.P.Placement.bounded before.placement } in
-    let answers = front_answers P s cs c.run-all.new.answers (drop (length cs) c.args.answers.now) ran.answers in
+    let answers = front_answers P s cs c.run_all.new.answers (drop (length cs) c.args.answers.now) ran.answers in
     record {
       room = sym (le-leb (length cs) (length c.args.answers.now) (omega arith));
       too_short = λ e. absurd (false≢true (sym e));

@@ -16,8 +16,8 @@ returns g c =
     let ds = c.args.others.now in
     let lp : Lawful P = record { order = g.met.O.LevelOrder.lawful l.order; placing = g.met.P.Placement.bounded l.placement } in
     let lq : Lawful Q = record { order = g.met.U.LevelOrder.lawful r.order; placing = g.met.V.Placement.bounded r.placement } in
-    let one = c.run-all.ensures in
-    let two = c.run-all-2.ensures in
+    let one = c.run_all.ensures in
+    let two = c.run_all-2.ensures in
     record {
       room = sym (and_from (leb (length cs) (length c.args.answers.now)) (leb (length ds) (length c.args.replies.now))
           (le-leb (length cs) (length c.args.answers.now) (omega arith)) (le-leb (length ds) (length c.args.replies.now) (omega arith)));

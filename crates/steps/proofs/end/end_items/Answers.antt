@@ -12,12 +12,12 @@ loop-item-preserved g c =
     let items = g.S.Shelf.items in
     let start = c.args.shelf.now in
     let now = c.loop-item.shelf in
-    let next = c.end-item.new.shelf in
+    let next = c.end_item.new.shelf in
     let inv = c.loop-item.invariant in
     let es = item_edits c.args.end c.args.level c.args.number c.loop-item.item (items now) in
-    let after = c.end-item.ensures.after in (
+    let after = c.end_item.ensures.after in (
       inv.0 ++ es,
-      traced_append items g.S.Shelf.edits start now next inv.0 es inv.1 c.end-item.ensures.traced,
+      traced_append items g.S.Shelf.edits start now next inv.0 es inv.1 c.end_item.ensures.traced,
       after ∙ ap (λ its. items_through its es) inv.2 ∙ sym (through_append (items start) inv.0 es),
       ending_step c.args.end c.args.level c.args.number c.loop-item.item (items now) (items next) inv.0 _
           (omega (arith, c.loop-item-test.true, c.count-item-end.ensures, inv.4)) after inv.3,

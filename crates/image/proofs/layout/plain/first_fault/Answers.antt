@@ -13,6 +13,6 @@ returns-in-Some c =
 pub returns-in-None : goal.returns-in-None
 returns-in-None c =
     let items = plain_items c.args.rows.now in
-    c.items-fault.ensures
+    c.items_fault.ensures
     ∙ ap (λ o. either o (plain_faults (length c.args.rows.now) 0 items)) c.in-None.ensures
     ∙ ap (λ k. either (head_fault k c.args.length) (plain_faults k 0 items)) (sym (length-map c.args.rows.now plain_item))

@@ -19,7 +19,7 @@ returns-in-None c =
     let m = c.args.self.now in
     let i = c.args.item in
     let e = c.args.edit in
-    let not = subst (λ bs. accepts_at (image_items bs) i e ≡ _) c.as-slice.ensures.value c.in-None.ensures in
+    let not = subst (λ bs. accepts_at (image_items bs) i e ≡ _) c.as_slice.ensures.value c.in-None.ensures in
     record {
       answer = sym not;
       after = sym (items_kept (items_of m) i e not);
@@ -27,31 +27,31 @@ returns-in-None c =
       step = λ h. absurd (false≢true h);
     }
 
-pub write-edit-requires : goal.write-edit-requires
-write-edit-requires c =
+pub write_edit-requires : goal.write_edit-requires
+write_edit-requires c =
     let i = c.args.item in
     let e = c.args.edit in
     let next = c.in-Some.next in
-    let back = c.as-slice.ensures.value ∙ sym c.as-mut-slice.ensures.value in
+    let back = c.as_slice.ensures.value ∙ sym c.as_mut_slice.ensures.value in
     let d = subst (λ bs. Decided bs i e next.places next.count) back c.in-Some.ensures in
     let n : next.count - 0 ≡ next.count = omega arith in
     let row = ap (λ k. take k next.places) n ∙ d.row in
     record {
-      image = subst IsImage back c.as-slice.ensures.image;
+      image = subst IsImage back c.as_slice.ensures.image;
       known = d.known;
       row = row;
       few = omega (arith, ap length row, d.count, d.few);
     }
 
-pub invariant-of-self : goal.invariant-of-self
-invariant-of-self c =
+pub invariant_of-self : goal.invariant_of-self
+invariant_of-self c =
     let m = c.args.self.now in
     let i = c.args.item in
     let e = c.args.edit in
     let next = c.in-Some.next in
-    let ws = c.write-edit.new.bytes in
-    let d = subst (λ bs. Decided bs i e next.places next.count) c.as-slice.ensures.value c.in-Some.ensures in
-    let is = c.write-edit.ensures ∙ ap (λ bs. bytes_after bs i e) c.as-mut-slice.ensures.value in
+    let ws = c.write_edit.new.bytes in
+    let d = subst (λ bs. Decided bs i e next.places next.count) c.as_slice.ensures.value c.in-Some.ensures in
+    let is = c.write_edit.ensures ∙ ap (λ bs. bytes_after bs i e) c.as_mut_slice.ensures.value in
     let w = edit_written m.bytes.items ws i e next.places next.count m.ok d c.requires is in
     let vec = with_items_is m.bytes ws (w.same_length ∙ sym m.bytes.ok.0) in
     (ap is_image vec ∙ ok_image ws (image_stays m.bytes.items ws i e m.ok w.edited), tt)
@@ -62,9 +62,9 @@ returns-in-Some c =
     let i = c.args.item in
     let e = c.args.edit in
     let next = c.in-Some.next in
-    let ws = c.write-edit.new.bytes in
-    let d = subst (λ bs. Decided bs i e next.places next.count) c.as-slice.ensures.value c.in-Some.ensures in
-    let is = c.write-edit.ensures ∙ ap (λ bs. bytes_after bs i e) c.as-mut-slice.ensures.value in
+    let ws = c.write_edit.new.bytes in
+    let d = subst (λ bs. Decided bs i e next.places next.count) c.as_slice.ensures.value c.in-Some.ensures in
+    let is = c.write_edit.ensures ∙ ap (λ bs. bytes_after bs i e) c.as_mut_slice.ensures.value in
     let w = edit_written m.bytes.items ws i e next.places next.count m.ok d c.requires is in
     let vec = with_items_is m.bytes ws (w.same_length ∙ sym m.bytes.ok.0) in
     record {

@@ -9,4 +9,4 @@ returns-then-self-other c =
     let a = c.args.self in
     let b = c.args.other in
     let same : c.includes.result ≡ covers a b = search rules in
-    record { value = same; wall-by-wall = Decides-at c.includes.result (covers a b) same (covers_wall_by_wall a b) }
+    record { value = same; wall_by_wall = Decides-at c.includes.result (covers a b) same (covers_wall_by_wall a b) }

@@ -1,11 +1,11 @@
 use Rattle.orders.specs.Labelled.{stored}
 use Rattle.orders.proofs.walls.WallsBuilder.push.Goals as goal
 
-pub invariant-of-self : goal.invariant-of-self
-invariant-of-self c =
+pub invariant_of-self : goal.invariant_of-self
+invariant_of-self c =
     let b = c.args.self.now in
     let s = stored b.count b.labels c.args.label b.full b.few b.unequal c.requires in
-    (s.full, (s.few, (s.unequal, tt)))
+    record { full = s.full; few = s.few; unequal = s.unequal }
 
 pub returns : goal.returns
 returns c =

@@ -7,12 +7,12 @@ use Rattle.scheduler.proofs.state.Scheduler.writing.Goals as goal
 pub returns-then-item-count : goal.returns-then-item-count
 returns-then-item-count g c =
     let s = state_of g.S.Shelf.items c.args.self.now in
-    let found = sym c.in-ok-held.ensures.value in
-    sym (item_unknown s _ c.in-ok-held.held c.args.item (write_item c.args.level c.args.number c.args.value) found (omega (arith, c.count.ensures, c.if-item-count.true)))
+    let found = sym c.in_ok-held.ensures.value in
+    sym (item_unknown s _ c.in_ok-held.held c.args.item (write_item c.args.level c.args.number c.args.value) found (omega (arith, c.count.ensures, c.if-item-count.true)))
 
 pub returns : goal.returns
 returns g c =
     let s = state_of g.S.Shelf.items c.args.self.now in
-    let found = sym c.in-ok-held.ensures.value in
+    let found = sym c.in_ok-held.ensures.value in
     c.write_item.ensures
-    ∙ sym (goes_on s _ c.in-ok-held.held c.args.item (write_item c.args.level c.args.number c.args.value) found (omega (arith, c.count.ensures, c.if-item-count.false)))
+    ∙ sym (goes_on s _ c.in_ok-held.held c.args.item (write_item c.args.level c.args.number c.args.value) found (omega (arith, c.count.ensures, c.if-item-count.false)))

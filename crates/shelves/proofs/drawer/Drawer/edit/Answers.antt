@@ -1,5 +1,5 @@
 use Rattle.std.proofs.Common.{get_or, sym, refl, arith}
-use Rattle.std.proofs.iter.runs.Lists.{nth_read}
+use Rattle.std.proofs.lemmas.Option.{slice_get-get_or}
 use Rattle.std.proofs.lemmas.Bool.{true≢false, false≢true}
 use Rattle.shelves.specs.Drawers.{drawer_items}
 use Rattle.shelves.specs.Drawn.{unknown_item, refused_edit, accepted_edit}
@@ -31,7 +31,7 @@ returns-in-Some c =
     let d = c.args.self.now in
     let i = c.args.item in
     let r = get_or d.rows i c.index-self-item.result in
-    let found = nth_read d.rows i c.index-self-item.result (omega arith) in
+    let found = slice_get-get_or d.rows i c.index-self-item.result (omega arith) in
     let k = accepted_edit d i c.args.edit r c.in-Some.next c.if-item-self.false found c.in-Some.ensures in
     record {
       answer = sym k.answer;
