@@ -3,8 +3,8 @@ use Rattle.image.specs.Layout.{item_count, version_at}
 use Rattle.image.specs.Known.{few_used, unknown_look, past_look, known_look}
 use Rattle.image.proofs.items.look_at.Goals as goal
 
-pub returns-then-item_count : goal.returns-then-item_count
-returns-then-item_count c = sym (unknown_look c.args.bytes.now c.args.item c.args.place (omega (arith, c.read32-count.ensures)))
+pub returns-then-item-count : goal.returns-then-item-count
+returns-then-item-count c = sym (unknown_look c.args.bytes.now c.args.item c.args.place (omega (arith, c.read32-count.ensures)))
 
 pub returns-then-place-bytes : goal.returns-then-place-bytes
 returns-then-place-bytes c =

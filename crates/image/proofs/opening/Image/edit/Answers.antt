@@ -54,7 +54,7 @@ invariant_of-self c =
     let is = c.write_edit.ensures ∙ ap (λ bs. bytes_after bs i e) c.as_mut_slice.ensures.value in
     let w = edit_written m.bytes.items ws i e next.places next.count m.ok d c.requires is in
     let vec = with_items_is m.bytes ws (w.same_length ∙ sym m.bytes.ok.0) in
-    (ap is_image vec ∙ ok_image ws (image_stays m.bytes.items ws i e m.ok w.edited), tt)
+    record { ok = ap is_image vec ∙ ok_image ws (image_stays m.bytes.items ws i e m.ok w.edited) }
 
 pub returns-in-Some : goal.returns-in-Some
 returns-in-Some c =

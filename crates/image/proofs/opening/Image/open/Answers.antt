@@ -6,4 +6,4 @@ use Rattle.image.proofs.opening.Image.open.Goals as goal
 pub invariant_of-result : goal.invariant_of-result
 invariant_of-result c =
     let bs = c.as_slice.ensures.value in
-    (ok_if_none c.args.bytes.items (ap fault (sym bs) ∙ sym c.in-None.ensures.value), tt)
+    record { ok = ok_if_none c.args.bytes.items (ap fault (sym bs) ∙ sym c.in-None.ensures.value) }
