@@ -113,6 +113,7 @@ fn from_1_to_4096_items(rt: HostRuntime) -> Result<(), Fail> {
 // A row as item 1 of 2, into bytes of 7, which a refusal leaves.
 fn try_row(
     rt: &(impl Abort + AllocGlobal),
+    case: &str,
     level: u8,
     versions: &[Version],
     length: usize,
@@ -121,14 +122,14 @@ fn try_row(
     let mut bytes = vec![in rt.alloc(); 7u8; length]?;
     match lay_two(&[committed(0, 0)], level, versions, bytes.as_mut_slice()) {
         Ok(()) => {
-            assert_eq!(rt; expected, None);
+            assert_eq!(rt; expected, None, "{case}");
             Ok(())
-        },
+        }
         Err(refused) => {
-            assert_eq!(rt; expected, Some(refused.offset));
-            assert_eq!(rt; refused.number(), 3);
+            assert_eq!(rt; expected, Some(refused.offset), "{case}");
+            assert_eq!(rt; refused.number(), 3, "{case}");
             for byte in bytes.as_slice() {
-                assert_eq!(rt; *byte, 7);
+                assert_eq!(rt; *byte, 7, "{case}");
             }
             Ok(())
         }
@@ -144,19 +145,47 @@ fn how_many_bytes(rt: HostRuntime) -> Result<(), Fail> {
         (395, Some(4)),
         (397, Some(4)),
     ] {
-        try_row(&rt, 15, &[committed(0, 0)], length, expected)?;
+        try_row(
+            &rt,
+            "length alone",
+            15,
+            &[committed(0, 0)],
+            length,
+            expected,
+        )?;
     }
-    try_row(&rt, 16, &[], 395, Some(4)).note("length before level")
+    try_row(&rt, "length before level", 16, &[], 395, Some(4))
 }
 
 #[test]
 fn each_fault_has_its_offset(rt: HostRuntime) -> Result<(), Fail> {
-    try_row(&rt, 16, &[], 396, Some(10)).note("level 16")?;
-    try_row(&rt, 0, &[], 396, Some(11)).note("no version")?;
-    try_row(&rt, 0, &[committed(0, 0); 9], 396, Some(11)).note("nine versions")?;
-    try_row(&rt, 0, &[pending(0, 0)], 396, Some(11)).note("none committed")?;
-    try_row(&rt, 0, &[committed(1, 2), pending(1, 1)], 396, Some(228)).note("number before stamp")?;
-    try_row(&rt, 0, &[committed(1, 2), pending(2, 1)], 396, Some(232)).note("stamps fall")
+    try_row(&rt, "level 16", 16, &[], 396, Some(10))?;
+    try_row(&rt, "no version", 0, &[], 396, Some(11))?;
+    try_row(
+        &rt,
+        "nine versions",
+        0,
+        &[committed(0, 0); 9],
+        396,
+        Some(11),
+    )?;
+    try_row(&rt, "none committed", 0, &[pending(0, 0)], 396, Some(11))?;
+    try_row(
+        &rt,
+        "number before stamp",
+        0,
+        &[committed(1, 2), pending(1, 1)],
+        396,
+        Some(228),
+    )?;
+    try_row(
+        &rt,
+        "stamps fall",
+        0,
+        &[committed(1, 2), pending(2, 1)],
+        396,
+        Some(232),
+    )
 }
 
 #[test]

@@ -2,7 +2,6 @@
 use crate::placed;
 use placements::{AtClock, Behind, ByDegree, Entry};
 use std::process::Abort;
-use std::test::Fail;
 
 // Three transactions of different levels at these stamps.
 fn entries(stamps: [u32; 3]) -> [Entry; 3] {
@@ -15,16 +14,19 @@ fn entries(stamps: [u32; 3]) -> [Entry; 3] {
 }
 
 // Asks by degree from 1 to 9, at each degree, and compares with what should come.
-fn by_degree(rt: &impl Abort, stamps: [u32; 3], table: &[(u8, u32)]) -> Result<(), Fail> {
+fn by_degree(rt: &impl Abort, case: &str, stamps: [u32; 3], table: &[(u8, u32)]) {
     let list = entries(stamps);
     for (degree, expected) in table {
-        assert_eq!(rt; placed(&ByDegree, *degree, 1, 9, &list), *expected);
+        assert_eq!(rt;
+            placed(&ByDegree, *degree, 1, 9, &list),
+            *expected,
+            "{case}"
+        );
     }
-    Ok(())
 }
 
 #[test]
-fn a_degree_passes_over_its_share(rt: HostRuntime) -> Result<(), Fail> {
+fn a_degree_passes_over_its_share(rt: HostRuntime) {
     let table = [
         (0, 3),
         (1, 5),
@@ -36,28 +38,28 @@ fn a_degree_passes_over_its_share(rt: HostRuntime) -> Result<(), Fail> {
         (101, 9),
         (255, 9),
     ];
-    by_degree(&rt, [3, 5, 8], &table).note("rising")?;
-    by_degree(&rt, [8, 3, 5], &table).note("in another order")
+    by_degree(&rt, "rising", [3, 5, 8], &table);
+    by_degree(&rt, "in another order", [8, 3, 5], &table);
 }
 
 #[test]
-fn equal_stamps_are_each_counted(rt: HostRuntime) -> Result<(), Fail> {
+fn equal_stamps_are_each_counted(rt: HostRuntime) {
     by_degree(
         &rt,
+        "two equal",
         [4, 7, 4],
         &[(0, 4), (33, 4), (34, 7), (66, 7), (67, 9)],
-    )?;
-    by_degree(&rt, [6, 6, 6], &[(0, 6), (66, 6), (67, 9)])
+    );
+    by_degree(&rt, "all equal", [6, 6, 6], &[(0, 6), (66, 6), (67, 9)]);
 }
 
 #[test]
-fn an_answer_is_kept_within(rt: HostRuntime) -> Result<(), Fail> {
-    by_degree(&rt, [0, 0, 12], &[(0, 1), (33, 1), (66, 9)]).note("from 1 to 9")?;
+fn an_answer_is_kept_within(rt: HostRuntime) {
+    by_degree(&rt, "from 1 to 9", [0, 0, 12], &[(0, 1), (33, 1), (66, 9)]);
     let list = entries([3, 5, 8]);
     assert_eq!(rt; placed(&ByDegree, 0, 4, 4, &list), 4);
     assert_eq!(rt; placed(&ByDegree, 100, 4, 4, &list), 4);
     assert_eq!(rt; placed(&ByDegree, 34, 7, 6, &list), 7, "lo above hi");
-    Ok(())
 }
 
 #[test]
