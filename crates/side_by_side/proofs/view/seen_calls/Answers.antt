@@ -6,7 +6,7 @@ use Rattle.rules.specs.Isolation.{visible, seen_calls}
 use Rattle.rules.specs.declared.call.Call.{Call}
 use Rattle.rules.specs.declared.call.Call.TheVariants.{Tick}
 use Rattle.side_by_side.proofs.view.seen_calls.Goals as goal
-use Rattle.side_by_side.proofs.view.seen_calls.Goals.{then-visible+in-ok-push, else-visible}
+use Rattle.side_by_side.proofs.view.seen_calls.Goals.{then-visible+in_ok-push, else-visible}
 
 pub loop-call-preserved : goal.loop-call-preserved
 loop-call-preserved g c =
@@ -17,9 +17,10 @@ loop-call-preserved g c =
     let more = filter_more (visible o c.args.level) cs i Tick c.loop-call-test.true in
     let before = seen_calls o c.args.level (take i cs) in
     elim c.if-visible.branch [
-      | then-visible+in-ok-push w ↦
+      | then-visible+in_ok-push w ↦
           let shows : visible o c.args.level call ≡ true = sym w.if-visible.ensures in
-          ?
+          ap vec_items w.seen-is ∙ w.in_ok-push.ensures.items ∙ ap (λ xs. xs ++ call ∷ []) c.loop-call.invariant
+          ∙ ap (λ xs. before ++ xs) (sym (cond-true (visible o c.args.level call) (call ∷ []) [] shows)) ∙ sym more
       | else-visible w ↦
           let hides : visible o c.args.level call ≡ false = sym w.if-visible.ensures in
           ap vec_items w.seen-is ∙ c.loop-call.invariant ∙ sym (append-nil before)
