@@ -17,7 +17,7 @@ use Rattle.rules.specs.States.{Parts, State, items_through, edits_of}
 use Rattle.rules.specs.Steps.{two_committed, write_edits}
 use Rattle.rules.specs.declared.decision.Writing.{Writing}
 use Rattle.rules.proofs.Advance.{Newcomer, Advance, reads_kept}
-use Rattle.rules.proofs.History.{Event, began, stored, last_stored, Began, Ended}
+use Rattle.rules.proofs.History.{Event, stored, last_stored, Began, Ended}
 use Rattle.rules.proofs.Inside.{in_nth}
 use Rattle.rules.proofs.Invariant.{ActiveIn, Stores, Owned, Original, RowKept, Live, Inv}
 use Rattle.rules.proofs.Inverted.{IsSender, OwnWriting, NewWriting}

@@ -1,5 +1,5 @@
 -- The laws of the rules, of a run whatever was sent before it. Assumes nothing.
-use Rattle.std.proofs.Common.{◌≡◌, ℕ, List, [], ◌∷◌, ◌++◌, sym, refl, ap, ◌∙◌, subst, ap₂}
+use Rattle.std.proofs.Common.{◌≡◌, List, ◌++◌, sym, ap, ◌∙◌, subst}
 use Rattle.rules.specs.Isolation.{SameParts}
 use Rattle.rules.specs.Runs.{run, logged, log}
 use Rattle.rules.specs.Serial.{feeds, committed_ones, RunningOrder}

@@ -1,5 +1,5 @@
 -- What a run does, and what is true of it whatever was sent before. Assumes nothing.
-use Rattle.std.specs.Prelude.{◌≡◌, ℕ, ◌<◌, Bool, true, false, ◌&&◌, List, ◌++◌, map, length, take, drop, None, nat_le}
+use Rattle.std.specs.Prelude.{◌≡◌, ℕ, ◌<◌, Bool, true, false, List, ◌++◌, map, length, take, drop, None, nat_le}
 use Rattle.orders.specs.Orders.{Order}
 use Rattle.placements.specs.Placings.{Placing}
 use Rattle.shelves.specs.Items.{Item, ShelfLaws}

@@ -1,10 +1,7 @@
 -- A step of an active transaction goes on with the item that it names, if there is one. Assumes nothing.
-use Rattle.std.proofs.Common.{◌≡◌, ℕ, zero, suc, ◌+◌, ◌<◌, ◌≤◌, List, [], ◌∷◌, length, get_or, drop, Some, Ok, Err, Result, sym, refl, ap, ◌∙◌, arith}
-use Rattle.std.specs.List.{slice_get}
-use Rattle.std.proofs.lemmas.Option.{same_Some}
-use Rattle.std.proofs.lemmas.List.{at_drop_more}
-use Rattle.std.proofs.lemmas.Option.{slice_get-get_or, slice_get_past}
-use Rattle.shelves.specs.Items.{Item, first_item}
+use Rattle.std.proofs.Common.{◌≡◌, ℕ, ◌<◌, ◌≤◌, length, Ok, Err, Result, ap, ◌∙◌}
+use Rattle.std.proofs.lemmas.Option.{slice_get_past}
+use Rattle.shelves.specs.Items.{Item}
 use Rattle.tables.specs.declared.place.Held.{Held}
 use Rattle.rules.specs.States.{State}
 use Rattle.rules.specs.Steps.{and_then, known, item_of}

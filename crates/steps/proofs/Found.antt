@@ -1,15 +1,10 @@
 -- The item at a place of a list of items. Assumes nothing.
-use Rattle.std.proofs.Common.{◌≡◌, ℕ, zero, suc, ◌+◌, ◌<◌, ◌≤◌, List, [], ◌∷◌, length, get_or, drop, Some, Ok, Err, Result, sym, refl, ap, ◌∙◌, arith}
+use Rattle.std.proofs.Common.{◌≡◌, ℕ, zero, suc, ◌+◌, ◌<◌, List, [], ◌∷◌, length, get_or, drop, Some, sym, refl, ap, ◌∙◌, arith}
 use Rattle.std.specs.List.{slice_get}
 use Rattle.std.proofs.lemmas.Option.{same_Some}
 use Rattle.std.proofs.lemmas.List.{at_drop_more}
-use Rattle.std.proofs.lemmas.Option.{slice_get-get_or, slice_get_past}
+use Rattle.std.proofs.lemmas.Option.{slice_get-get_or}
 use Rattle.shelves.specs.Items.{Item, first_item}
-use Rattle.tables.specs.declared.place.Held.{Held}
-use Rattle.rules.specs.States.{State}
-use Rattle.rules.specs.Steps.{and_then, known, item_of}
-use Rattle.rules.specs.declared.refusal.Refusal.{Refusal}
-use Rattle.rules.specs.declared.refusal.Refusal.TheVariants.{UnknownItem}
 use Rattle.steps.specs.Traces.{item_at}
 
 pub nth_item : (its : List Item) (x : ℕ) → x < length its → slice_get its x ≡ Some (item_at its x)

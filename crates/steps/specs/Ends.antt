@@ -1,5 +1,5 @@
 -- What an end makes of a transaction's versions, and the edits that each call is ruled to make. Assumes nothing.
-use Rattle.std.specs.Prelude.{ℕ, cond, List, [], ◌∷◌, Ok, Err, Result, ◌==◌}
+use Rattle.std.specs.Prelude.{ℕ, cond, List, [], Ok, Err, Result, ◌==◌}
 use Rattle.shelves.specs.Items.{Item, level_of, row_of}
 use Rattle.shelves.specs.declared.edit.Edit.{Edit}
 use Rattle.rules.specs.Choices.{last_that, numbered}

@@ -1,10 +1,10 @@
 -- The steps of the walks over a table's places. Assumes nothing.
-use Rattle.std.proofs.Common.{◌≡◌, ℕ, ◌+◌, ◌<◌, true, eqb, List, [], ◌∷◌, length, get_or, drop, Some, sym, ap, ◌∙◌}
+use Rattle.std.proofs.Common.{◌≡◌, ℕ, ◌+◌, ◌<◌, eqb, List, ◌∷◌, length, get_or, drop, Some, ap, ◌∙◌}
 use Rattle.std.proofs.lemmas.List.{at_drop_more}
 use Rattle.std.proofs.lemmas.Bool.{eq-eqb, ne_eqb, cond-true, cond-false}
 use Rattle.tables.specs.declared.place.Place.{Place}
 use Rattle.tables.specs.declared.place.Place.TheVariants.{Free, Open}
-use Rattle.tables.specs.Tables.{held_from, free_from}
+use Rattle.tables.specs.Tables.{held_from}
 
 -- a function of what is left of the places, where the next place is known
 pub at_place : {Y : Type 0} (F : List Place → Y) (ps : List Place) (i : ℕ) (p : Place) → i < length ps → get_or ps i Free ≡ p

@@ -1,5 +1,5 @@
 -- What a level's table tells, and how it changes. Assumes nothing.
-use Rattle.std.specs.Prelude.{ℕ, ◌+◌, Bool, cond, List, [], ◌∷◌, replicate, Some, None, Option, ◌==◌, slice_set}
+use Rattle.std.specs.Prelude.{ℕ, ◌+◌, cond, List, [], ◌∷◌, replicate, Some, None, Option, ◌==◌, slice_set}
 use Rattle.tables.specs.declared.place.Active.{Active}
 use Rattle.tables.specs.declared.place.Held.{Held}
 use Rattle.tables.specs.declared.place.Place.{Place}

@@ -1,4 +1,4 @@
-use Rattle.std.proofs.Common.{◌≡◌, ◌+◌, ◌*◌, ◌≤◌, ◌++◌, length, take, drop}
+use Rattle.std.proofs.Common.{◌≡◌, ◌*◌, ◌≤◌, ◌++◌, length, take, drop}
 use Rattle.rules.specs.Watermarks.{collected}
 use Rattle.choosing.specs.Reaches.{reaches}
 use Rattle.choosing.proofs.collected.collect.Given as goal

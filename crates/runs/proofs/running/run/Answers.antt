@@ -1,5 +1,5 @@
-use Rattle.std.proofs.Common.{◌≡◌, true, false, length, drop, sym, refl, arith}
-use Rattle.std.proofs.lemmas.Bool.{le-leb, lt-leb, false≢true}
+use Rattle.std.proofs.Common.{length, drop, sym, arith}
+use Rattle.std.proofs.lemmas.Bool.{le-leb, false≢true}
 use Rattle.rules.specs.Starts.{Lawful}
 use Rattle.scheduler.specs.Views.{parts_of, state_of}
 use Rattle.runs.proofs.Lawfully.{hides_calls, is_serial, has_running_order}

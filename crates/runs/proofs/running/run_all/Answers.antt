@@ -1,5 +1,5 @@
-use Rattle.std.proofs.Common.{◌≡◌, ℕ, ◌+◌, ◌<◌, ◌≤◌, List, [], ◌∷◌, ◌++◌, length, get_or, take, drop, set, sym, refl, ap, ◌∙◌, ap₂, append-nil, arith}
-use Rattle.std.proofs.lemmas.List.{get_or_default, take_more_set, drop-set-lt, drop-drop, at_drop_all, take-append-drop}
+use Rattle.std.proofs.Common.{◌≡◌, ℕ, ◌+◌, ◌<◌, List, ◌++◌, length, get_or, take, drop, sym, ap, ◌∙◌, ap₂, append-nil, arith}
+use Rattle.std.proofs.lemmas.List.{get_or_default, take_more_set, drop-set-lt, at_drop_all, take-append-drop}
 use Rattle.rules.specs.Runs.{step, run}
 use Rattle.rules.specs.States.{Parts, State}
 use Rattle.rules.specs.declared.answer.Answer.{Answer}

@@ -1,4 +1,4 @@
-use Rattle.std.proofs.Common.{◌≡◌, ◌++◌, length, take, drop}
+use Rattle.std.proofs.Common.{◌≡◌, ◌++◌, take, drop}
 use Rattle.rules.specs.Runs.{run}
 use Rattle.scheduler.specs.Views.{parts_of, state_of}
 use Rattle.runs.proofs.running.run_all.Given as goal

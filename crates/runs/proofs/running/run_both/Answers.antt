@@ -1,4 +1,4 @@
-use Rattle.std.proofs.Common.{◌≡◌, true, false, ◌&&◌, leb, length, drop, sym, refl, arith}
+use Rattle.std.proofs.Common.{leb, length, drop, sym, arith}
 use Rattle.std.proofs.lemmas.Bool.{and_from, le-leb, false≢true}
 use Rattle.rules.specs.Starts.{Lawful}
 use Rattle.scheduler.specs.Views.{parts_of, state_of}

@@ -1,4 +1,4 @@
-use Rattle.std.proofs.Common.{◌≡◌, List, ◌++◌, length, sym, ap, ◌∙◌, subst, arith}
+use Rattle.std.proofs.Common.{◌≡◌, ◌++◌, length, sym, ap, ◌∙◌, subst, arith}
 use Rattle.rules.proofs.Rowed.{length_after}
 use Rattle.rules.specs.States.{items_through}
 use Rattle.rules.specs.Steps.{end_edits}

@@ -2,7 +2,6 @@ use Rattle.std.proofs.Common.{◌≡◌, ◌-◌, length, take, sym, refl, ap, �
 use Rattle.std.proofs.lemmas.List.{with_items_is}
 use Rattle.std.proofs.lemmas.Bool.{true≢false, false≢true}
 use Rattle.shelves.proofs.Stays.{items_kept}
-use Rattle.shelves.specs.Edits.{edited}
 use Rattle.shelves.specs.Items.{accepts_at}
 use Rattle.image.specs.Decided.{Decided, BytesEdited}
 use Rattle.image.specs.Images.{is_image}

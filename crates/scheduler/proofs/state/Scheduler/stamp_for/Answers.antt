@@ -1,7 +1,6 @@
-use Rattle.std.proofs.Common.{◌≡◌, ℕ, ◌-◌, max, List, map, take, sym, ap, ◌∙◌, ap₂}
+use Rattle.std.proofs.Common.{◌≡◌, ℕ, ◌-◌, max, List, map, take, ap, ◌∙◌, ap₂}
 use native.Mathlib.Nat.{sub-zero}
 use Rattle.std.proofs.lemmas.List.{take-map}
-use Rattle.placements.specs.declared.entry.Entry.{Entry}
 use Rattle.rules.specs.Watermarks.{least, entry}
 use Rattle.tables.specs.declared.place.Active.{Active}
 use Rattle.tables.specs.declared.table.Table.{Table}
