@@ -1,6 +1,6 @@
 // Numbers and versions written into bytes.
 ghost use Rattle.std.specs.Prelude.{◌≡◌, ◌+◌, ◌*◌, ◌≤◌, true, ◌++◌, length};
-ghost use Rattle.std.specs.List.{AllByRecursion as All};
+ghost use Rattle.std.specs.List.{AllByRecursion};
 ghost use Rattle.fields.specs.Written.{bytes32, bytes64, state_number, version_bytes, row_bytes, pasted, has_room, written, VersionFits};
 
 use shelves::{State, Version};
@@ -64,7 +64,7 @@ fn put_version(bytes: &mut [u8], at: usize, version: Version)
 fn put_row(bytes: &mut [u8], start: usize, versions: &[Version])
     requires { start + 24 * length versions.now ≤ length bytes.old }
     ensures after { bytes.new ≡ pasted bytes.old start (row_bytes versions.now) }
-    ensures fits { All VersionFits versions.now }
+    ensures fits { AllByRecursion VersionFits versions.now }
 {
     for j in 0..versions.len() {
         put_version(bytes, start + 24 * j, versions[j]);
@@ -90,7 +90,7 @@ pub fn write32(bytes: &mut [u8], at: usize, number: u32) -> bool
 pub fn write_row(bytes: &mut [u8], start: usize, versions: &[Version]) -> bool
     ensures answer { result ≡ has_room bytes.old start (row_bytes versions.now) }
     ensures after { bytes.new ≡ written bytes.old start (row_bytes versions.now) }
-    ensures fits { result ≡ true → All VersionFits versions.now }
+    ensures fits { result ≡ true → AllByRecursion VersionFits versions.now }
 {
     if start > bytes.len() {
         return false;

@@ -1,6 +1,6 @@
 -- Rows have no fault exactly where they fit, and the steps of the search for one. Assumes nothing.
 use Rattle.std.proofs.Common.{◌≡◌, ℕ, ◌+◌, ◌-◌, ◌*◌, ◌<◌, ◌≤◌, true, not, ◌&&◌, eqb, ltb, leb, List, [], ◌∷◌, length, get_or, drop, is_ok, Some, None, Decides, Option, refl, ap, ◌∙◌, inl, inr, arith}
-use Rattle.std.specs.List.{AllByRecursion as All}
+use Rattle.std.specs.List.{AllByRecursion}
 use Rattle.std.proofs.lemmas.List.{drop_more, drop_all}
 use Rattle.std.proofs.lemmas.Bool.{and_parts, and_from, not-false, not_from_true, leb-true, leb-false, ltb-true, ltb-false, eqb-true, le-leb, lt-leb, lt-ltb, le-ltb, eq-eqb, cases_lt, false≢true}
 use Rattle.shelves.specs.Edits.{blank}
@@ -89,7 +89,7 @@ module _ (k i l : ℕ) (vs : List Version) where
       (not_from_true (number_fits vs) (and_from (leb 1 (length vs) && leb (length vs) 8) (any_committed vs) n.0 o.1)))
       (order_none vs (8 + 2 * k + 192 * i) o.0))
 
-items_parts : (k i : ℕ) (items : List Item) → plain_faults k i items ≡ None → All (λ (it : Item). it.level ≤ 15) items × All (λ (it : Item). RowRule it.row) items
+items_parts : (k i : ℕ) (items : List Item) → plain_faults k i items ≡ None → AllByRecursion (λ (it : Item). it.level ≤ 15) items × AllByRecursion (λ (it : Item). RowRule it.row) items
 items_parts k i [] h = (tt, tt)
 items_parts k i (it ∷ its) h =
     let a = either_parts (plain_fault k i it.level it.row) (plain_faults k (i + 1) its) h in
@@ -97,7 +97,7 @@ items_parts k i (it ∷ its) h =
     let rest = items_parts k (i + 1) its a.1 in
     ((here.0, rest.0), (here.1, rest.1))
 
-items_none : (k i : ℕ) (items : List Item) → All (λ (it : Item). it.level ≤ 15) items → All (λ (it : Item). RowRule it.row) items → plain_faults k i items ≡ None
+items_none : (k i : ℕ) (items : List Item) → AllByRecursion (λ (it : Item). it.level ≤ 15) items → AllByRecursion (λ (it : Item). RowRule it.row) items → plain_faults k i items ≡ None
 items_none k i [] levels rows = refl
 items_none k i (it ∷ its) levels rows =
     either_none (plain_fault k i it.level it.row) (plain_faults k (i + 1) its)
@@ -119,7 +119,7 @@ head_none k n some few exact =
     (and_from (leb 8 n) (leb 1 k && leb k 4096) (le-leb 8 n (omega arith)) (and_from (leb 1 k) (leb k 4096) (le-leb 1 k some) (le-leb k 4096 few)))))
     (passes (not (eqb n (whole k))) 4 (not_from_true (eqb n (whole k)) (eq-eqb n (whole k) exact)))
 
-pub short_rows : (items : List Item) → All (λ (it : Item). RowRule it.row) items → All Short items
+pub short_rows : (items : List Item) → AllByRecursion (λ (it : Item). RowRule it.row) items → AllByRecursion Short items
 short_rows [] rows = tt
 short_rows (it ∷ its) rows = (rows.0.few, short_rows its rows.1)
 

@@ -1,6 +1,6 @@
 -- Bytes that were laid out are an image of exactly the items. Assumes nothing.
 use Rattle.std.proofs.Common.{◌≡◌, ℕ, zero, suc, ◌+◌, ◌-◌, ◌*◌, ◌<◌, ◌≤◌, true, List, [], ◌∷◌, ◌++◌, map, length, get_or, replicate, is_ok, Some, None, Ok, Err, Decides, Option, Result, sym, refl, ap, ◌∙◌, subst, ap₂, arith}
-use Rattle.std.specs.List.{range_with_len, flat_map, AllByRecursion as All}
+use Rattle.std.specs.List.{range_with_len, flat_map, AllByRecursion}
 use Rattle.std.proofs.lemmas.List.FromFn.{fill_by_all}
 use Rattle.std.proofs.ByRecursion.{All-get_or, All-append}
 use Rattle.std.proofs.lemmas.List.{get_or_append_left, get_or-append_right}
@@ -18,7 +18,7 @@ use Rattle.image.specs.Decoded.{same32, same_version, row_version, row_state, re
 use Rattle.image.proofs.Fits.{rows_parts, short_rows, answer_exact}
 use Rattle.image.proofs.Laying.{Short, length_filled, length_places, length_entries, length_laid}
 
-blanks_fit : (n : ℕ) → All VersionFits (replicate n blank)
+blanks_fit : (n : ℕ) → AllByRecursion VersionFits (replicate n blank)
 blanks_fit zero = tt
 blanks_fit (suc n) = (blank_fits, blanks_fit n)
 
@@ -38,7 +38,7 @@ entry_number (it ∷ its) rest (suc i) d h =
     ap (byte (flat_map entry_bytes (it ∷ its) ++ rest)) e ∙ entry_number its rest i d (omega arith)
 
 -- its places
-place_bytes : (items : List Item) → All Short items → (i q : ℕ) (d : Item) → i < length items → q < 192
+place_bytes : (items : List Item) → AllByRecursion Short items → (i q : ℕ) (d : Item) → i < length items → q < 192
     → byte (flat_map places_bytes items) (192 * i + q) ≡ byte (places_bytes (get_or items i d)) q
 place_bytes [] few i q d h l = absurd (omega arith)
 place_bytes (it ∷ its) few zero q d h l =
@@ -53,8 +53,8 @@ place_bytes (it ∷ its) few (suc i) q d h l =
 no_item : Item
 no_item = record { level = 0; row = [] }
 
-module _ (items : List Item) (n : ℕ) (fit : Fitting items n) (fits : All RowFits items) where
-  few : All Short items
+module _ (items : List Item) (n : ℕ) (fit : Fitting items n) (fits : AllByRecursion RowFits items) where
+  few : AllByRecursion Short items
   few = short_rows items fit.rows
 
   count : item_count (laid_out items) ≡ length items
@@ -160,7 +160,7 @@ refused_layout items before at is = record {
   kept = λ h. absurd (false≢true h);
 }
 
-accepted_layout : (items : List Item) (before : List ℕ) → None ≡ rows_fault items (length before) → All RowFits items → LaidOut items before (Ok tt) (laid_out items)
+accepted_layout : (items : List Item) (before : List ℕ) → None ≡ rows_fault items (length before) → AllByRecursion RowFits items → LaidOut items before (Ok tt) (laid_out items)
 accepted_layout items before is fits =
     let fit = rows_parts items (length before) (sym is) in
     record {
@@ -172,13 +172,13 @@ accepted_layout items before is fits =
       kept = λ _. laid_items items (length before) fit fits;
     }
 
-by_fault : (items : List Item) (before : List ℕ) (o : Option ℕ) → o ≡ rows_fault items (length before) → (is_ok (laid_answer o) ≡ true → All RowFits items)
+by_fault : (items : List Item) (before : List ℕ) (o : Option ℕ) → o ≡ rows_fault items (length before) → (is_ok (laid_answer o) ≡ true → AllByRecursion RowFits items)
     → LaidOut items before (laid_answer o) (laid_after o items before)
 by_fault items before None is fits = accepted_layout items before is (fits refl)
 by_fault items before (Some at) is fits = refused_layout items before at is
 
 pub layout_promise : (items : List Item) (before after : List ℕ) (r : Result (Unit {0}) LayoutFault) → r ≡ laid_answer (rows_fault items (length before))
-    → after ≡ laid_after (rows_fault items (length before)) items before → (is_ok r ≡ true → All RowFits items) → LaidOut items before r after
+    → after ≡ laid_after (rows_fault items (length before)) items before → (is_ok r ≡ true → AllByRecursion RowFits items) → LaidOut items before r after
 layout_promise items before after r is bytes fits =
     let promise = by_fault items before (rows_fault items (length before)) refl (λ h. fits (ap is_ok is ∙ h)) in
     subst (λ x. LaidOut items before x after) (sym is) (subst (λ xs. LaidOut items before (laid_answer (rows_fault items (length before))) xs) (sym bytes) promise)

@@ -1,6 +1,6 @@
 -- Bytes while items are laid out one after the other. Assumes nothing.
 use Rattle.std.proofs.Common.{◌≡◌, ℕ, ◌+◌, ◌-◌, ◌*◌, ◌<◌, ◌≤◌, List, [], ◌∷◌, ◌++◌, length, get_or, take, replicate, sym, refl, ap, ◌∙◌, subst, ap₂, inl, inr, arith}
-use Rattle.std.specs.List.{flat_map, AllByRecursion as All}
+use Rattle.std.specs.List.{flat_map, AllByRecursion}
 use Rattle.std.proofs.ByRecursion.{All-get_or, All-append, All-take}
 use Rattle.std.proofs.lemmas.List.{append_assoc, append-nil, length-append, length-replicate, length-take-le, drop_all, flat_map_more, take_all, take_at, take_more, ext_get_or}
 use Rattle.std.proofs.lemmas.Bool.{cases_lt}
@@ -87,7 +87,7 @@ pub length_entries : (items : List Item) → length (flat_map entry_bytes items)
 length_entries [] = refl
 length_entries (it ∷ its) = omega (arith, length_entries its)
 
-pub length_all_places : (items : List Item) → All Short items → length (flat_map places_bytes items) ≡ 192 * length items
+pub length_all_places : (items : List Item) → AllByRecursion Short items → length (flat_map places_bytes items) ≡ 192 * length items
 length_all_places [] few = refl
 length_all_places (it ∷ its) few =
     length-append (places_bytes it) (flat_map places_bytes its) ∙ omega (arith, length_places it few.0, length_all_places its few.1)
@@ -103,7 +103,7 @@ laid_none hs items = sym (none_pasted (pasted hs 8 []) (8 + 2 * length items) �
 joined_take : (f : Item → List ℕ) (items : List Item) (i : ℕ) (d : Item) → i < length items → flat_map f (take i items) ++ f (get_or items i d) ≡ flat_map f (take (i + 1) items)
 joined_take f items i d h = flat_map_more f [] (take i items) (get_or items i d) ∙ ap (flat_map f) (sym (take_more items i d h))
 
-module _ (hs : List ℕ) (items : List Item) (exact : length hs ≡ whole (length items)) (few : All Short items) where
+module _ (hs : List ℕ) (items : List Item) (exact : length hs ≡ whole (length items)) (few : AllByRecursion Short items) where
   entries_long : (i : ℕ) → i ≤ length items → length (flat_map entry_bytes (take i items)) ≡ 2 * i
   entries_long i h = length_entries (take i items) ∙ ap (λ n. 2 * n) (length-take-le i items h)
 
@@ -136,12 +136,12 @@ module _ (hs : List ℕ) (items : List Item) (exact : length hs ≡ whole (lengt
       (places_bytes it) (omega (arith, entered_long (i + 1) (omega arith), places_long i (omega arith), short))
       ∙ ap (pasted (pasted hs 8 next) (8 + 2 * k)) (joined_take places_bytes items i d h)
 
-pub length_laid : (items : List Item) → All Short items → length (laid_out items) ≡ whole (length items)
+pub length_laid : (items : List Item) → AllByRecursion Short items → length (laid_out items) ≡ whole (length items)
 length_laid items few =
     length-append (head_bytes (length items)) (flat_map entry_bytes items ++ flat_map places_bytes items)
     ∙ omega (arith, length-append (flat_map entry_bytes items) (flat_map places_bytes items), length_entries items, length_all_places items few)
 
-pub laid_all : (bs hs : List ℕ) (items : List Item) → length bs ≡ whole (length items) → All Short items → hs ≡ pasted bs 0 (head_bytes (length items))
+pub laid_all : (bs hs : List ℕ) (items : List Item) → length bs ≡ whole (length items) → AllByRecursion Short items → hs ≡ pasted bs 0 (head_bytes (length items))
     → (i : ℕ) → length items ≤ i → laid_to hs items i ≡ laid_out items
 laid_all bs hs items exact few head i h =
     let k : ℕ = length items in
@@ -163,31 +163,31 @@ laid_all bs hs items exact few head i h =
 -- the step of a loop that writes the items, and what its end gives
 pub record LaidTo (hs : List ℕ) (items : List Item) (i : ℕ) (bs : List ℕ) : Type 0 where
   pub bytes : bs ≡ laid_to hs items i
-  pub fits : All RowFits (take i items)
+  pub fits : AllByRecursion RowFits (take i items)
 
 pub laying_none : (hs : List ℕ) (items : List Item) → LaidTo hs items 0 hs
 laying_none hs items = record { bytes = laid_none hs items; fits = tt }
 
-pub laying_more : (hs bs ws : List ℕ) (items : List Item) (i : ℕ) (it : Item) → length hs ≡ whole (length items) → All Short items → i < length items
-    → get_or items i it ≡ it → LaidTo hs items i bs → ws ≡ item_written bs (length items) i it → All VersionFits (filled it.row) → LaidTo hs items (i + 1) ws
+pub laying_more : (hs bs ws : List ℕ) (items : List Item) (i : ℕ) (it : Item) → length hs ≡ whole (length items) → AllByRecursion Short items → i < length items
+    → get_or items i it ≡ it → LaidTo hs items i bs → ws ≡ item_written bs (length items) i it → AllByRecursion VersionFits (filled it.row) → LaidTo hs items (i + 1) ws
 laying_more hs bs ws items i it exact few h is so_far written fits =
-    let one : All VersionFits it.row =
-    subst (All VersionFits) (take_at it.row (replicate (8 - length it.row) blank) (length it.row) refl)
+    let one : AllByRecursion VersionFits it.row =
+    subst (AllByRecursion VersionFits) (take_at it.row (replicate (8 - length it.row) blank) (length it.row) refl)
     (All-take VersionFits (length it.row) (filled it.row) fits) in
     record {
       bytes =
           written ∙ ap₂ (λ xs x. item_written xs (length items) i x) so_far.bytes (sym is) ∙ laid_more hs items exact few i it h;
-      fits = subst (All RowFits) (sym (take_more items i it h))
+      fits = subst (AllByRecursion RowFits) (sym (take_more items i it h))
           (All-append RowFits (take i items) (get_or items i it ∷ []) so_far.fits (subst RowFits (sym is) one, tt));
     }
 
 pub record AllLaid (items : List Item) (bs : List ℕ) : Type 0 where
   pub bytes : bs ≡ laid_out items
-  pub fits : All RowFits items
+  pub fits : AllByRecursion RowFits items
 
-pub laying_all : (bs hs ws : List ℕ) (items : List Item) (i : ℕ) → length bs ≡ whole (length items) → All Short items → hs ≡ pasted bs 0 (head_bytes (length items))
+pub laying_all : (bs hs ws : List ℕ) (items : List Item) (i : ℕ) → length bs ≡ whole (length items) → AllByRecursion Short items → hs ≡ pasted bs 0 (head_bytes (length items))
     → length items ≤ i → LaidTo hs items i ws → AllLaid items ws
 laying_all bs hs ws items i exact few head h so_far = record {
   bytes = so_far.bytes ∙ laid_all bs hs items exact few head i h;
-  fits = subst (All RowFits) (take_all i items h) so_far.fits;
+  fits = subst (AllByRecursion RowFits) (take_all i items h) so_far.fits;
 }

@@ -1,7 +1,7 @@
 -- The bytes after an accepted edit are an image, with the items that the edit leaves. Assumes nothing.
 use Rattle.std.specs.Prelude.{◌≡◌, ℕ, zero, suc, ◌+◌, ◌*◌, ◌<◌, ◌≤◌, true, List, [], ◌∷◌, ◌++◌, map, length, get_or, ◌≢◌, nat_lt, slice_index_or, slice_set, refl}
 use Rattle.std.proofs.Common.{inl, inr, sym, ap, ap₂, subst, ◌∙◌, arith}
-use Rattle.std.specs.List.{range_with_len, AllByRecursion as All}
+use Rattle.std.specs.List.{range_with_len, AllByRecursion}
 use Rattle.std.proofs.lemmas.List.FromFn.{length-map-range_with_len, get_or-map-range_with_len, fill_by_all}
 use Rattle.std.proofs.ByRecursion.{All-map, All-append, All-set, All-take, All-drop}
 use Rattle.std.proofs.lemmas.List.{length-set, length-append, get_or-set_same, get_or-set_other, get_or_append_left, ext_get_or}
@@ -27,11 +27,11 @@ same_counted f g a zero h = refl
 same_counted f g a (suc n) h = ap₂ (λ x xs. x ∷ xs) (h a (omega arith)) (same_counted f g (a + 1) n (λ j l. h j (omega arith)))
 
 -- every version of an edited row fits its bytes
-each_reads : (bs : List ℕ) (start : ℕ) (ks : List ℕ) → ((k : ℕ) → byte bs k < 256) → All (λ j. VersionFits (version_at bs (start + 24 * j))) ks
+each_reads : (bs : List ℕ) (start : ℕ) (ks : List ℕ) → ((k : ℕ) → byte bs k < 256) → AllByRecursion (λ j. VersionFits (version_at bs (start + 24 * j))) ks
 each_reads bs start [] h = tt
 each_reads bs start (k ∷ ks) h = (read_fits bs (start + 24 * k) h, each_reads bs start ks h)
 
-edited_fits : (e : Edit) (vs : List Version) → EditFits e → All VersionFits vs → All VersionFits (edited e vs)
+edited_fits : (e : Edit) (vs : List Version) → EditFits e → AllByRecursion VersionFits vs → AllByRecursion VersionFits (edited e vs)
 edited_fits (Put p v) vs f a = All-set VersionFits vs p v f a
 edited_fits (Insert p v) vs f a = All-append VersionFits _ _ (All-take VersionFits p vs a) (f, All-drop VersionFits p vs a)
 edited_fits (Remove p) vs f a = All-append VersionFits _ _ (All-take VersionFits p vs a) (All-drop VersionFits (suc p) vs a)
@@ -40,15 +40,15 @@ pub blank_fits : VersionFits blank
 blank_fits = record { number = omega arith; stamp = omega arith; mark = omega arith; value = omega arith }
 
 -- at most one place is freed
-freed_fits : (n m : ℕ) → n ≤ 8 → m ≤ 8 → (m + length (freed n m) ≤ 8) × All VersionFits (freed n m)
+freed_fits : (n m : ℕ) → n ≤ 8 → m ≤ 8 → (m + length (freed n m) ≤ 8) × AllByRecursion VersionFits (freed n m)
 freed_fits n m old new =
     elim (cases_lt m n) [
       | inl l ↦
           let e = cond-true (nat_lt m n) (blank ∷ []) [] (lt-ltb m n l) in
-          subst (λ vs. (m + length vs ≤ 8) × All VersionFits vs) (sym e) (omega arith, (blank_fits, tt))
+          subst (λ vs. (m + length vs ≤ 8) × AllByRecursion VersionFits vs) (sym e) (omega arith, (blank_fits, tt))
       | inr l ↦
           let e = cond-false (nat_lt m n) (blank ∷ []) [] (le-ltb m n l) in
-          subst (λ vs. (m + length vs ≤ 8) × All VersionFits vs) (sym e) (omega arith, tt)
+          subst (λ vs. (m + length vs ≤ 8) × AllByRecursion VersionFits vs) (sym e) (omega arith, tt)
     ]
 
 -- the row that an edit leaves, and what is written of it
@@ -63,7 +63,7 @@ module _ (bs : List ℕ) (i : ℕ) (e : Edit) (image : IsImage bs) (known : i < 
   new_rule : RowRule (new_row bs i e)
   new_rule = (rule_decides (new_row bs i e)).0 (and_parts (fits e (length (item_at bs i).row)) (keeps_rule (new_row bs i e)) accepted).1
 
-  all_fit : All VersionFits (new_row bs i e ++ freed (used_at bs i) (length (new_row bs i e)))
+  all_fit : AllByRecursion VersionFits (new_row bs i e ++ freed (used_at bs i) (length (new_row bs i e)))
   all_fit =
       All-append VersionFits (new_row bs i e) (freed (used_at bs i) (length (new_row bs i e)))
       (edited_fits e (item_at bs i).row fit

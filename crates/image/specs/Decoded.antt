@@ -1,7 +1,7 @@
 -- What was written is read again. Assumes nothing.
 use Rattle.std.specs.Prelude.{◌≡◌, ℕ, zero, suc, ◌+◌, ◌-◌, ◌*◌, ◌/◌, ◌%◌, ◌<◌, ◌≤◌, List, [], ◌∷◌, ◌++◌, length, slice_index_or, refl}
 use Rattle.std.proofs.Common.{sym, ap, ap₂, ◌∙◌, add-zero, arith}
-use Rattle.std.specs.List.{AllByRecursion as All}
+use Rattle.std.specs.List.{AllByRecursion}
 use Rattle.std.proofs.lemmas.List.{get_or-append_right}
 use Rattle.shelves.specs.declared.version.State.{State}
 use Rattle.shelves.specs.declared.version.State.TheVariants.{Committed, Pending}
@@ -90,7 +90,7 @@ behind_one v vs k =
     let e : 24 + k - 24 ≡ k = omega arith in
     get_or-append_right (version_bytes v) (row_bytes vs) 24 (24 + k) 0 refl (omega arith) ∙ ap (byte (row_bytes vs)) e
 
-pub row_version : (vs : List Version) → All VersionFits vs → (j : ℕ) (d : Version) → j < length vs → version_at (row_bytes vs) (24 * j) ≡ slice_index_or vs j d
+pub row_version : (vs : List Version) → AllByRecursion VersionFits vs → (j : ℕ) (d : Version) → j < length vs → version_at (row_bytes vs) (24 * j) ≡ slice_index_or vs j d
 row_version [] fit j d h = absurd (omega arith)
 row_version (v ∷ vs) fit zero d h = front_version v (row_bytes vs) fit.0
 row_version (v ∷ vs) fit (suc j) d h =

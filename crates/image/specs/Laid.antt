@@ -1,6 +1,6 @@
 -- What laying out rows gives: the first faulty field, or all bytes. Assumes nothing.
 use Rattle.std.specs.Prelude.{◌≡◌, ℕ, ◌+◌, ◌-◌, ◌*◌, ◌≤◌, Bool, true, not, ◌&&◌, List, [], ◌∷◌, ◌++◌, map, length, replicate, is_ok, is_err, Some, None, Ok, Err, Decides, Option, Result, ◌==◌, nat_le, nat_lt}
-use Rattle.std.specs.List.{flat_map, AllByRecursion as All}
+use Rattle.std.specs.List.{flat_map, AllByRecursion}
 use Rattle.shelves.specs.Edits.{blank}
 use Rattle.shelves.specs.Items.{Item, level_of, row_of}
 use Rattle.shelves.specs.Rows.{any_committed, RowRule}
@@ -66,8 +66,8 @@ pub record Fitting (items : List Item) (n : ℕ) : Type 0 where
   pub some : 1 ≤ length items
   pub few : length items ≤ 4096
   pub exact : n ≡ whole (length items)
-  pub levels : All (λ it. it.level ≤ 15) items
-  pub rows : All (λ it. RowRule it.row) items
+  pub levels : AllByRecursion (λ it. it.level ≤ 15) items
+  pub rows : AllByRecursion (λ it. RowRule it.row) items
 
 -- eight places: a row, then zeros
 abbrev pub filled : List Version → List Version

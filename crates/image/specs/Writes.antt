@@ -1,6 +1,6 @@
 -- What is written of versions, and all bytes after an edit. Assumes nothing.
 use Rattle.std.specs.Prelude.{ℕ, ◌+◌, ◌*◌, ◌/◌, ◌%◌, ◌<◌, cond, List, [], ◌∷◌, ◌++◌, length, take, drop, nat_lt, slice_set}
-use Rattle.std.specs.List.{flat_map, AllByRecursion as All}
+use Rattle.std.specs.List.{flat_map, AllByRecursion}
 use Rattle.shelves.specs.Edits.{blank, edited}
 use Rattle.shelves.specs.Items.{Item}
 use Rattle.shelves.specs.declared.edit.Edit.{Edit}
@@ -49,4 +49,4 @@ pub record VersionFits (v : Version) : Type 0 where
 
 -- so do the numbers of all versions of an item
 abbrev pub RowFits : Item → Type 0
-RowFits it = All VersionFits it.row
+RowFits it = AllByRecursion VersionFits it.row

@@ -1,6 +1,6 @@
 // Versions written into bytes.
 ghost use Rattle.std.specs.Prelude.{◌≡◌, ◌+◌, ◌*◌, ◌≤◌, ◌++◌, length};
-ghost use Rattle.std.specs.List.{AllByRecursion as All};
+ghost use Rattle.std.specs.List.{AllByRecursion};
 ghost use Rattle.image.specs.Writes.{bytes32, bytes64, state_number, version_bytes, row_bytes, pasted, freed, VersionFits};
 
 use shelves::{BLANK, State, Version};
@@ -64,7 +64,7 @@ fn write_version(bytes: &mut [u8], at: usize, version: Version)
 pub(crate) fn write_row(bytes: &mut [u8], start: usize, versions: &[Version])
     requires { start + 24 * length versions.now ≤ length bytes.old }
     ensures after { bytes.new ≡ pasted bytes.old start (row_bytes versions.now) }
-    ensures fits { All VersionFits versions.now }
+    ensures fits { AllByRecursion VersionFits versions.now }
 {
     for j in 0..versions.len() {
         write_version(bytes, start + 24 * j, versions[j]);

@@ -1,7 +1,7 @@
 -- The stamp that has k others before it is the one at which the counts of smaller and of no larger stamps lie on both
 -- sides of k; the counts do not depend on the order. Assumes nothing.
 use Rattle.std.proofs.Common.{◌≡◌, ℕ, zero, suc, ◌+◌, ◌<◌, ◌≤◌, Bool, true, false, ltb, leb, List, [], ◌∷◌, length, get_or, drop, Some, None, sum_by, sym, refl, ap, ◌∙◌, subst, inl, inr, arith}
-use Rattle.std.specs.List.{AllByRecursion as All, slice_get}
+use Rattle.std.specs.List.{AllByRecursion, slice_get}
 use Rattle.std.specs.List.Sorted.{IsPermutation}
 use Rattle.std.proofs.lemmas.Option.{none-some, same_Some}
 use Rattle.std.proofs.ByRecursion.{All-weaker, All-from_get_or, has_get_or}
@@ -13,7 +13,7 @@ use Rattle.std.proofs.lemmas.Option.{slice_get-get_or, slice_get_past}
 use Rattle.placements.specs.declared.entry.Entry.{Entry}
 use Rattle.placements.specs.Ranks.{stamps, slot, one_if, ascending, ranked, below, has_rank, Rank}
 
-all_at : (P : ℕ → Type 0) (xs : List ℕ) (k s : ℕ) → slice_get xs k ≡ Some s → All P xs → P s
+all_at : (P : ℕ → Type 0) (xs : List ℕ) (k s : ℕ) → slice_get xs k ≡ Some s → AllByRecursion P xs → P s
 all_at P [] k s h a = absurd (none-some s h)
 all_at P (x ∷ xs) zero s h a = let Q : ℕ → Type 0 = P in subst Q (same_Some x s h) a.0
 all_at P (x ∷ xs) (suc k) s h a = all_at P xs k s h a.1
@@ -37,19 +37,19 @@ below_ascending : (t : ℕ) (xs : List ℕ) → below t (ascending xs) ≡ below
 below_ascending t [] = refl
 below_ascending t (x ∷ xs) = below_slot t x (ascending xs) ∙ ap (λ n. one_if (ltb x t) + n) (below_ascending t xs)
 
-all_slot : (P : ℕ → Type 0) (x : ℕ) (ys : List ℕ) → P x → All P ys → All P (slot x ys)
+all_slot : (P : ℕ → Type 0) (x : ℕ) (ys : List ℕ) → P x → AllByRecursion P ys → AllByRecursion P (slot x ys)
 all_slot P x [] h a = (h, tt)
 all_slot P x (y ∷ ys) h a =
-    cond_both (leb x y) (x ∷ y ∷ ys) (y ∷ slot x ys) (All P) (λ _. (h, a)) (λ _. (a.0, all_slot P x ys h a.1))
+    cond_both (leb x y) (x ∷ y ∷ ys) (y ∷ slot x ys) (AllByRecursion P) (λ _. (h, a)) (λ _. (a.0, all_slot P x ys h a.1))
 
-all_ascending : (P : ℕ → Type 0) (xs : List ℕ) → All P xs → All P (ascending xs)
+all_ascending : (P : ℕ → Type 0) (xs : List ℕ) → AllByRecursion P xs → AllByRecursion P (ascending xs)
 all_ascending P [] a = tt
 all_ascending P (x ∷ xs) a = all_slot P x (ascending xs) a.0 (all_ascending P xs a.1)
 
 -- each is at most all behind it
 abbrev Rising : List ℕ → Type 0
 Rising [] = Unit {0}
-Rising (x ∷ xs) = All (λ y. x ≤ y) xs × Rising xs
+Rising (x ∷ xs) = AllByRecursion (λ y. x ≤ y) xs × Rising xs
 
 rising_slot : (x : ℕ) (ys : List ℕ) → Rising ys → Rising (slot x ys)
 rising_slot x [] r = (tt, tt)
@@ -75,7 +75,7 @@ at_most_one : (b : Bool) → one_if b ≤ 1
 at_most_one true = omega arith
 at_most_one false = omega arith
 
-none_below : (t : ℕ) (xs : List ℕ) → All (λ x. t ≤ x) xs → below t xs ≡ 0
+none_below : (t : ℕ) (xs : List ℕ) → AllByRecursion (λ x. t ≤ x) xs → below t xs ≡ 0
 none_below t [] a = refl
 none_below t (x ∷ xs) a = omega (arith, passed_over x t a.0, none_below t xs a.1)
 
@@ -155,7 +155,7 @@ between_has xs k s p =
     and_from (leb (below s xs) k) (ltb k (below (s + 1) xs)) (le-leb (below s xs) k p.smaller) (lt-ltb k (below (s + 1) xs) p.no_larger)
 
 -- where no stamp has the rank, there are too few
-too_few : (xs : List ℕ) (k : ℕ) → All (λ s. has_rank xs k s ≡ false) xs → length xs ≤ k
+too_few : (xs : List ℕ) (k : ℕ) → AllByRecursion (λ s. has_rank xs k s ≡ false) xs → length xs ≤ k
 too_few xs k none =
     elim (cases_lt k (length xs)) [
       | inl h ↦

@@ -1,6 +1,6 @@
 -- Members of a list and their places, and members of what a test keeps of it. Assumes nothing.
 use Rattle.std.proofs.Common.{◌≡◌, ℕ, zero, suc, ◌<◌, ◌≤◌, Bool, true, ◌⊎◌, List, [], ◌∷◌, ◌++◌, length, take, drop, set, Some, filter, sym, refl, ap, ◌∙◌, subst, inl, inr, arith}
-use Rattle.std.specs.List.{AllByRecursion as All, slice_get}
+use Rattle.std.specs.List.{AllByRecursion, slice_get}
 use Rattle.std.proofs.lemmas.Option.{none-some, same_Some}
 use Rattle.std.proofs.lemmas.Bool.{cond-true, cond_both}
 use Rattle.rules.specs.Members.{In}
@@ -85,12 +85,12 @@ nth_set_other (y ∷ ys) (suc i) (suc j) a d = nth_set_other ys i j a (λ e. d (
 
 module _ {X : Type 0} where
   -- what holds of all holds of each
-  pub all_in : (P : X → Type 0) (xs : List X) (x : X) → All P xs → In x xs → P x
+  pub all_in : (P : X → Type 0) (xs : List X) (x : X) → AllByRecursion P xs → In x xs → P x
   all_in P [] x a i = absurd i
   all_in P (y ∷ ys) x a (inl e) = subst P e a.0
   all_in P (y ∷ ys) x a (inr i) = all_in P ys x a.1 i
 
-  pub all_from_in : (P : X → Type 0) (xs : List X) → ((x : X) → In x xs → P x) → All P xs
+  pub all_from_in : (P : X → Type 0) (xs : List X) → ((x : X) → In x xs → P x) → AllByRecursion P xs
   all_from_in P [] f = tt
   all_from_in P (y ∷ ys) f = (f y (inl refl), all_from_in P ys (λ x i. f x (inr i)))
 

@@ -3,7 +3,7 @@
 use Rattle.std.proofs.Common.{◌≡◌, ℕ, zero, suc, ◌+◌, max, Bool, true, false, cond, not, eqb, ltb, ◌⊎◌, List, [], ◌∷◌, map, get_or, set, replicate, is_some, Some, None, Ok, Err, Option, Result, sym, refl, ap, ◌∙◌, subst, ap₂, inl, inr, arith}
 use mathlib.Core.Path.{fun_ext}
 use Rattle.std.specs.Option.{option_map}
-use Rattle.std.specs.List.{AllByRecursion as All, slice_get}
+use Rattle.std.specs.List.{AllByRecursion, slice_get}
 use Rattle.std.proofs.lemmas.Option.{slice_get-map}
 use Rattle.std.proofs.ByRecursion.{All-append, All-weaker}
 use Rattle.std.proofs.lemmas.Bool.{true≢false, cases_Bool, cond-true, cond-false, cond_both, and_parts, eqb-true}
@@ -90,7 +90,7 @@ after_is (it ∷ its) (suc x) e = later_item it its x e (slice_get its x) ∙ ap
 
 -- all edits are of items of level a
 abbrev OfLevel : ℕ → List Item → List ItemEdit → Type 0
-OfLevel a its es = All (λ e. level_of its e.item ≡ a) es
+OfLevel a its es = AllByRecursion (λ e. level_of its e.item ≡ a) es
 
 of_level_after : (a : ℕ) (its : List Item) (x : ℕ) (d : Edit) (es : List ItemEdit) → OfLevel a its es
     → OfLevel a (items_after its x d) es
@@ -191,19 +191,19 @@ module _ (p : ℕ → Bool) where
       (masked_from_rows its jts more (λ x. h (suc x)))
 
 end_edit_level : (f : Chosen → Edit) (level : ℕ → ℕ) (a x : ℕ) (c : Option Chosen) → level x ≡ a
-    → All (λ e. level e.item ≡ a) (end_edit f x c)
+    → AllByRecursion (λ e. level e.item ≡ a) (end_edit f x c)
 end_edit_level f level a x None h = tt
 end_edit_level f level a x (Some c) h = (h, tt)
 
 ends_at_level : (f : Chosen → Edit) (level : ℕ → ℕ) (a n x : ℕ) (its : List Item) → ((y : ℕ) → level (x + y) ≡ level_of its y)
-    → All (λ e. level e.item ≡ a) (end_edits f a n x its)
+    → AllByRecursion (λ e. level e.item ≡ a) (end_edits f a n x its)
 ends_at_level f level a n x [] h = tt
 ends_at_level f level a n x (it ∷ its) h =
     let here : x ≡ x + 0 = omega arith in
     let next : (y : ℕ) → x + 1 + y ≡ x + suc y = λ y. omega arith in
     let c = last_that (numbered n) it.row in
     All-append (λ e. level e.item ≡ a) (cond (eqb it.level a) (end_edit f x c) []) (end_edits f a n (x + 1) its)
-    (cond_both (eqb it.level a) (end_edit f x c) [] (All (λ e. level e.item ≡ a))
+    (cond_both (eqb it.level a) (end_edit f x c) [] (AllByRecursion (λ e. level e.item ≡ a))
     (λ e. end_edit_level f level a x c (ap level here ∙ h 0 ∙ eqb-true it.level a e)) (λ _. tt))
     (ends_at_level f level a n (x + 1) its (λ y. ap level (next y) ∙ h (suc y)))
 

@@ -1,7 +1,7 @@
 -- Any transactions can be put into a running order: sorted by stamp, then by how many levels theirs dominates, the most
 -- first, then by level and number. Assumes nothing.
 use Rattle.std.proofs.Common.{◌≡◌, ℕ, zero, suc, ◌+◌, ◌<◌, ◌≤◌, Bool, true, false, not, eqb, ◌⊎◌, List, [], ◌∷◌, sym, refl, ap, ◌∙◌, subst, inl, inr, arith}
-use Rattle.std.specs.List.{AllByRecursion as All}
+use Rattle.std.specs.List.{AllByRecursion}
 use Rattle.std.proofs.ByRecursion.{All-weaker}
 use Rattle.std.proofs.lemmas.Bool.{and_parts, not-true, eqb-false, cases_eq, cases_Bool, cases_order, both_ways}
 use Rattle.orders.specs.Orders.{Order, PartialOrder}
@@ -111,7 +111,7 @@ module _ (o : Order) where
   -- each stands before all behind it
   abbrev Sorted : List Transaction → Type 0
   Sorted [] = Unit {0}
-  Sorted (u ∷ us) = All (Sooner u) us × Sorted us
+  Sorted (u ∷ us) = AllByRecursion (Sooner u) us × Sorted us
 
   -- vs are the members of us, sorted
   record SortedFrom (us vs : List Transaction) : Type 0 where

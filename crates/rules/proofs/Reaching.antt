@@ -1,6 +1,6 @@
 -- What the invariant says of every reached state. Assumes nothing.
 use Rattle.std.proofs.Common.{◌≡◌, ℕ, zero, suc, ◌<◌, ◌≤◌, Bool, true, false, cond, ◌&&◌, eqb, ◌⊎◌, List, [], ◌∷◌, length, set, Some, Ok, Err, Result, sym, refl, ap, ◌∙◌, subst, inl, inr, arith, get_or-set_other, get_or-set_same}
-use Rattle.std.specs.List.{AllByRecursion as All, slice_get}
+use Rattle.std.specs.List.{AllByRecursion, slice_get}
 use Rattle.std.proofs.lemmas.Option.{none-some, same_Some}
 use Rattle.std.proofs.lemmas.Bool.{cases_eq, cond_both}
 use Rattle.shelves.specs.Items.{Item, level_of, row_of}
@@ -271,7 +271,7 @@ rises P lawful v h s I (c ∷ cs) =
 pub numbers_rise : NumbersRise
 numbers_rise P v cs st = rises P st.lawful v [] v (inv_start P v st) cs
 
-all_by_place : (its : List Item) → ((x : ℕ) → x < length its → keeps_rule (row_of its x) ≡ true) → All (λ it. keeps_rule it.row ≡ true) its
+all_by_place : (its : List Item) → ((x : ℕ) → x < length its → keeps_rule (row_of its x) ≡ true) → AllByRecursion (λ it. keeps_rule it.row ≡ true) its
 all_by_place [] f = tt
 all_by_place (it ∷ its) f = (f 0 (omega arith), all_by_place its (λ x lt. f (suc x) (omega arith)))
 

@@ -1,7 +1,7 @@
 -- Where every read is right, a serial run gives each read the value that was seen: the value before a transaction is
 -- that of the latest one that stored it, and this is the writer that the read names. Assumes nothing.
 use Rattle.std.proofs.Common.{◌≡◌, ℕ, ◌<◌, ◌≤◌, Bool, true, false, cond, eqb, ◌⊎◌, List, [], ◌∷◌, ◌++◌, map, Some, None, Option, sym, refl, ap, ◌∙◌, subst, ap₂, subst₂, inl, inr, arith}
-use Rattle.std.specs.List.{AllByRecursion as All}
+use Rattle.std.specs.List.{AllByRecursion}
 use Rattle.std.proofs.lemmas.Bool.{eqb-true, eq-eqb, cases_eq, and_parts, and_from, or_cases, or_left, or_right, both_ways}
 use Rattle.std.proofs.lemmas.Bool.Decides.{nat_tests}
 use Rattle.orders.specs.Orders.{Order}
@@ -174,7 +174,7 @@ latest h first (d ∷ ds) x = now h d (latest h first ds) x
 -- each comes after all behind it
 abbrev Falling : Order → List Transaction → Type 0
 Falling o [] = Unit {0}
-Falling o (d ∷ ds) = All (λ e. Before o e d) ds × Falling o ds
+Falling o (d ∷ ds) = AllByRecursion (λ e. Before o e d) ds × Falling o ds
 
 not_stored : (v : Option ℕ) (d b : ℕ) → ((c : ℕ) → v ≡ Some c → ⊥) → d ≡ b → or_else v d ≡ b
 not_stored None d b n e = e

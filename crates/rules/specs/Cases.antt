@@ -1,6 +1,6 @@
 -- Worked cases of the rules, as one list. Assumes nothing.
 use Rattle.std.specs.Prelude.{◌≡◌, ℕ, Bool, true, List, [], ◌∷◌, ◌++◌, map}
-use Rattle.std.specs.List.{AllByRecursion as All}
+use Rattle.std.specs.List.{AllByRecursion}
 use Rattle.orders.specs.Cases.{walls_keep_apart}
 use Rattle.orders.specs.Chains.{chain}
 use Rattle.placements.specs.Cases.{share_rounds_up, degrees_pass_over}
@@ -71,4 +71,4 @@ cases =
     ∷ []
 
 abbrev pub WorkedCasesHold : Type 0
-WorkedCasesHold = All Holds cases
+WorkedCasesHold = AllByRecursion Holds cases

@@ -1,6 +1,6 @@
 -- What holds in every state that a run reaches. Assumes nothing.
 use Rattle.std.specs.Prelude.{◌≡◌, ℕ, ◌<◌, ◌≤◌, true, List, Some, ◌≢◌}
-use Rattle.std.specs.List.{AllByRecursion as All, slice_get}
+use Rattle.std.specs.List.{AllByRecursion, slice_get}
 use Rattle.shelves.specs.Items.{level_of, row_of}
 use Rattle.shelves.specs.Rows.{keeps_rule}
 use Rattle.shelves.specs.declared.version.State.TheVariants.{Committed, Pending}
@@ -57,7 +57,7 @@ FloorNeverFalls =
 -- every row has 1 to 8 versions, in order, one of them committed
 abbrev pub RowsKeepRule : Type 0
 RowsKeepRule =
-    (P : Parts) (v : State) (cs : List Call) → Start P v → All (λ it. keeps_rule it.row ≡ true) (run P v cs).1.items
+    (P : Parts) (v : State) (cs : List Call) → Start P v → AllByRecursion (λ it. keeps_rule it.row ≡ true) (run P v cs).1.items
 
 -- the version of an accepted write has gone in
 abbrev pub WrittenVersionStands : Type 0

@@ -1,6 +1,6 @@
 -- Law: a serial run of the committed transactions gives the answered values. Assumes nothing.
 use Rattle.std.specs.Prelude.{◌≡◌, ℕ, ◌<◌, ◌≤◌, Bool, false, cond, ◌&&◌, ◌||◌, List, [], ◌∷◌, ◌++◌, map, length, Some, None, filter, Option, ◌==◌}
-use Rattle.std.specs.List.{AllByRecursion as All}
+use Rattle.std.specs.List.{AllByRecursion}
 use Rattle.orders.specs.Orders.{Order}
 use Rattle.shelves.specs.Items.{Item, row_of}
 use Rattle.shelves.specs.Rows.{is_committed}
@@ -91,7 +91,7 @@ pub record Before (o : Order) (u w : Transaction) : Type 0 where
 -- each comes before all behind it
 abbrev pub Ordered : Order → List Transaction → Type 0
 Ordered o [] = Unit {0}
-Ordered o (u ∷ us) = All (Before o u) us × Ordered o us
+Ordered o (u ∷ us) = AllByRecursion (Before o u) us × Ordered o us
 
 -- a list of just the transactions cs, in order; none comes before itself, so each stands there once
 pub record RunningOrder (o : Order) (cs us : List Transaction) : Type 0 where

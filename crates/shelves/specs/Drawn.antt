@@ -1,7 +1,7 @@
 -- A drawer's items before and after an edit. Assumes nothing.
 use Rattle.std.specs.Prelude.{◌≡◌, ℕ, ◌<◌, ◌≤◌, true, false, List, [], ◌∷◌, map, length, get_or, take, set, Some, slice_index_or, slice_set}
 use Rattle.std.proofs.Common.{sym, ap, ap₂, ◌∙◌, arith}
-use Rattle.std.specs.List.{AllByRecursion as All, slice_get}
+use Rattle.std.specs.List.{AllByRecursion, slice_get}
 use Rattle.std.proofs.lemmas.Option.{slice_get-get_or, slice_get_within, same_Some}
 use Rattle.std.proofs.ByRecursion.{All-map}
 use Rattle.std.proofs.lemmas.List.{length-take-le}
@@ -16,7 +16,7 @@ use Rattle.shelves.specs.Rows.{keeps_rule}
 use Rattle.shelves.specs.Fronts.{length_front, map_at, map_past, map_front_set}
 use Rattle.shelves.specs.Placed.{edited_front}
 
-every_ruled : (rs : List Row) → All (λ r. keeps_rule (row_item r).row ≡ true) rs
+every_ruled : (rs : List Row) → AllByRecursion (λ r. keeps_rule (row_item r).row ≡ true) rs
 every_ruled [] = tt
 every_ruled (r ∷ rs) = (r.ruled, every_ruled rs)
 

@@ -1,6 +1,6 @@
 -- What a shelf means: a list of items, each with a level and a row. Assumes nothing.
 use Rattle.std.specs.Prelude.{◌≡◌, ℕ, ◌≤◌, Bool, true, false, cond, List, [], ◌∷◌, ◌++◌, length, Some, None, Ok, Err, Option, Result, nat_lt, slice_set}
-use Rattle.std.specs.List.{AllByRecursion as All, slice_get}
+use Rattle.std.specs.List.{AllByRecursion, slice_get}
 use Rattle.shelves.specs.declared.edit.Edit.{Edit}
 use Rattle.shelves.specs.declared.refusal.ShelfRefusal.{ShelfRefusal}
 use Rattle.shelves.specs.declared.refusal.ShelfRefusal.TheVariants.{DrawerFull}
@@ -16,7 +16,7 @@ pub record Item : Type 0 where
 -- at most 4,096 items, each with a row that keeps the rule
 pub record ShelfLaws (items : List Item) : Type 0 where
   pub few : length items ≤ 4096
-  pub ruled : All (λ it. keeps_rule it.row ≡ true) items
+  pub ruled : AllByRecursion (λ it. keeps_rule it.row ≡ true) items
 
 -- an item with a first value: committed, and written and read by nobody
 abbrev pub first_item : ℕ → ℕ → Item

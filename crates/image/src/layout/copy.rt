@@ -1,6 +1,6 @@
 // Any shelf laid out.
 ghost use Rattle.std.specs.Prelude.{◌≡◌, ◌<◌, true, length, is_ok, None, slice_index_or};
-ghost use Rattle.std.specs.List.{AllByRecursion as All};
+ghost use Rattle.std.specs.List.{AllByRecursion};
 ghost use Rattle.shelves.specs.Edits.{blank};
 ghost use Rattle.shelves.specs.Items.{level_of, row_of};
 ghost use Rattle.image.specs.Laid.{filled, plain_fault, plain_faults, rows_fault, item_of, item_written, laid_out, laid_answer, laid_after, LaidOut};
@@ -71,7 +71,7 @@ fn write_copy<S: Shelf>(shelf: &S, item: u32, bytes: &mut [u8])
     requires known { item < length (S.Shelf.items shelf.now) }
     requires all { length bytes.old ≡ whole (length (S.Shelf.items shelf.now)) }
     ensures after { bytes.new ≡ item_written bytes.old (length (S.Shelf.items shelf.now)) item (item_of (S.Shelf.items shelf.now) item) }
-    ensures fits { All VersionFits (filled (row_of (S.Shelf.items shelf.now) item)) }
+    ensures fits { AllByRecursion VersionFits (filled (row_of (S.Shelf.items shelf.now) item)) }
 {
     let places = copy_places(shelf, item);
     let used = shelf.versions(item);
@@ -88,7 +88,7 @@ fn write_copy<S: Shelf>(shelf: &S, item: u32, bytes: &mut [u8])
 fn write_items<S: Shelf>(shelf: &S, bytes: &mut [u8])
     requires { rows_fault (S.Shelf.items shelf.now) (length bytes.old) ≡ None }
     ensures after { bytes.new ≡ laid_out (S.Shelf.items shelf.now) }
-    ensures fits { All RowFits (S.Shelf.items shelf.now) }
+    ensures fits { AllByRecursion RowFits (S.Shelf.items shelf.now) }
 {
     write_head(bytes, shelf.count());
     for item in 0..shelf.count() {
@@ -100,7 +100,7 @@ fn write_items<S: Shelf>(shelf: &S, bytes: &mut [u8])
 fn decide_and_copy<S: Shelf>(shelf: &S, bytes: &mut [u8]) -> Result<(), LayoutFault>
     ensures answer { result ≡ laid_answer (rows_fault (S.Shelf.items shelf.now) (length bytes.old)) }
     ensures after { bytes.new ≡ laid_after (rows_fault (S.Shelf.items shelf.now) (length bytes.old)) (S.Shelf.items shelf.now) bytes.old }
-    ensures fits { is_ok result ≡ true → All RowFits (S.Shelf.items shelf.now) }
+    ensures fits { is_ok result ≡ true → AllByRecursion RowFits (S.Shelf.items shelf.now) }
 {
     match first_fault(shelf, bytes.len()) {
         Some(offset) => Err(LayoutFault { offset }),

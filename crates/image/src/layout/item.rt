@@ -1,6 +1,6 @@
 // One item written into bytes.
 ghost use Rattle.std.specs.Prelude.{◌≡◌, ◌<◌, ◌≤◌, length};
-ghost use Rattle.std.specs.List.{AllByRecursion as All};
+ghost use Rattle.std.specs.List.{AllByRecursion};
 ghost use Rattle.image.specs.Laid.{filled, head_bytes, with_item};
 ghost use Rattle.image.specs.Layout.{whole};
 ghost use Rattle.image.specs.Writes.{VersionFits, pasted};
@@ -44,7 +44,7 @@ pub(super) fn write_item(
     requires known { i < count }
     requires used { used ≤ 8 }
     ensures after { bytes.new ≡ with_item bytes.old count i level used places.now }
-    ensures fits { All VersionFits places.now }
+    ensures fits { AllByRecursion VersionFits places.now }
 {
     bytes[8 + 2 * i] = level;
     bytes[9 + 2 * i] = used as u8;

@@ -1,6 +1,6 @@
 // Plain rows laid out.
 ghost use Rattle.std.specs.Prelude.{◌≡◌, ◌<◌, ◌≤◌, true, length, is_ok, None};
-ghost use Rattle.std.specs.List.{AllByRecursion as All};
+ghost use Rattle.std.specs.List.{AllByRecursion};
 ghost use Rattle.image.specs.Laid.{plain_item, plain_items, plain_faults, rows_fault, filled, item_written, laid_out, laid_answer, laid_after, LaidOut};
 ghost use Rattle.image.specs.Layout.{whole};
 ghost use Rattle.image.specs.Writes.{VersionFits, RowFits};
@@ -38,7 +38,7 @@ fn write_plain(bytes: &mut [u8], count: usize, i: usize, row: PlainRow)
     requires known { i < count }
     requires short { length (plain_item (row)).row ≤ 8 }
     ensures after { bytes.new ≡ item_written bytes.old count i (plain_item row.entry) }
-    ensures fits { All VersionFits (filled (plain_item row.entry).row) }
+    ensures fits { AllByRecursion VersionFits (filled (plain_item row.entry).row) }
 {
     write_item(
         bytes,
@@ -53,7 +53,7 @@ fn write_plain(bytes: &mut [u8], count: usize, i: usize, row: PlainRow)
 fn write_rows(rows: &[PlainRow], bytes: &mut [u8])
     requires { rows_fault (plain_items rows.now) (length bytes.old) ≡ None }
     ensures after { bytes.new ≡ laid_out (plain_items rows.now) }
-    ensures fits { All RowFits (plain_items rows.now) }
+    ensures fits { AllByRecursion RowFits (plain_items rows.now) }
 {
     let count = rows.len();
     write_head(bytes, count as u32);
@@ -67,7 +67,7 @@ fn write_rows(rows: &[PlainRow], bytes: &mut [u8])
 fn decide_and_write(rows: &[PlainRow], bytes: &mut [u8]) -> Result<(), LayoutFault>
     ensures answer { result ≡ laid_answer (rows_fault (plain_items rows.now) (length bytes.old)) }
     ensures after { bytes.new ≡ laid_after (rows_fault (plain_items rows.now) (length bytes.old)) (plain_items rows.now) bytes.old }
-    ensures fits { is_ok result ≡ true → All RowFits (plain_items rows.now) }
+    ensures fits { is_ok result ≡ true → AllByRecursion RowFits (plain_items rows.now) }
 {
     match first_fault(rows, bytes.len()) {
         Some(offset) => Err(LayoutFault { offset }),

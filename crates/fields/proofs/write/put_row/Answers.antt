@@ -1,5 +1,5 @@
 use Rattle.std.proofs.Common.{◌+◌, ◌*◌, [], ◌∷◌, get_or, take, sym, ap, ◌∙◌, subst}
-use Rattle.std.specs.List.{AllByRecursion as All}
+use Rattle.std.specs.List.{AllByRecursion}
 use Rattle.std.proofs.ByRecursion.{All-append}
 use Rattle.std.proofs.lemmas.List.{take_all, take_more}
 use Rattle.shelves.specs.Edits.{blank}
@@ -18,7 +18,7 @@ loop-j-preserved c =
       c.put_version.ensures.after
           ∙ ap (λ xs. pasted xs at (version_bytes (get_or vs j blank))) c.loop-j.invariant.0
           ∙ row_pasted_more c.args.bytes.now c.args.start j vs blank c.requires c.loop-j-test.true,
-      subst (All VersionFits) (sym (take_more vs j blank c.loop-j-test.true))
+      subst (AllByRecursion VersionFits) (sym (take_more vs j blank c.loop-j-test.true))
           (All-append VersionFits (take j vs) (get_or vs j blank ∷ []) c.loop-j.invariant.1 (c.put_version.ensures.fits, tt)),
     )
 
@@ -27,5 +27,5 @@ returns c =
     let all = take_all c.loop-j.j c.args.versions.now c.loop-j-test.false in
     record {
       after = c.loop-j.invariant.0 ∙ ap (λ vs. pasted c.args.bytes.now c.args.start (row_bytes vs)) all;
-      fits = subst (All VersionFits) all c.loop-j.invariant.1;
+      fits = subst (AllByRecursion VersionFits) all c.loop-j.invariant.1;
     }
