@@ -85,12 +85,12 @@ module _ (bs : List ℕ) (start j : ℕ) where
       let before : ℕ = start + 24 * (j - 1) in
       let falls : Bool = leb (field32 bs here) (field32 bs before) in
       let sinks : Bool = ltb (field32 bs (here + 4)) (field32 bs (before + 4)) in
-      let no-fall : (nat_lt 0 j && falls) ≡ false =
+      let no_fall : (nat_lt 0 j && falls) ≡ false =
       elim (cases_lt 0 j) [
         | inl l ↦ and_right (nat_lt 0 j) (nat_le (field32 bs (start + 24 * j)) (field32 bs (start + 24 * (j - 1)))) (lt-leb (field32 bs (start + 24 * j)) (field32 bs (start + 24 * (j - 1))) (v.number l))
         | inr l ↦ and_left (nat_lt 0 j) (nat_le (field32 bs (start + 24 * j)) (field32 bs (start + 24 * (j - 1)))) (le-ltb 0 j l)
       ] in
-      let no-sink : (nat_lt 0 j && sinks) ≡ false =
+      let no_sink : (nat_lt 0 j && sinks) ≡ false =
       elim (cases_lt 0 j) [
         | inl l ↦ and_right (nat_lt 0 j) (nat_lt (field32 bs (start + 24 * j + 4)) (field32 bs (start + 24 * (j - 1) + 4))) (le-ltb (field32 bs (start + 24 * j + 4)) (field32 bs (start + 24 * (j - 1) + 4)) (v.stamp l))
         | inr l ↦ and_left (nat_lt 0 j) (nat_lt (field32 bs (start + 24 * j + 4)) (field32 bs (start + 24 * (j - 1) + 4))) (le-ltb 0 j l)
@@ -98,7 +98,7 @@ module _ (bs : List ℕ) (start j : ℕ) where
       either_none (fault_if (nat_lt 1 (field32 bs (here + 12))) (here + 12)) (either (fault_if (nat_lt 0 j && falls) here) (fault_if (nat_lt 0 j && sinks) (here + 4)))
       (passes (nat_lt 1 (field32 bs (here + 12))) (here + 12) (le-ltb 1 (field32 bs (here + 12)) v.state))
       (either_none (fault_if (nat_lt 0 j && falls) here) (fault_if (nat_lt 0 j && sinks) (here + 4))
-      (passes (nat_lt 0 j && falls) here no-fall) (passes (nat_lt 0 j && sinks) (here + 4) no-sink))
+      (passes (nat_lt 0 j && falls) here no_fall) (passes (nat_lt 0 j && sinks) (here + 4) no_sink))
 
 -- then it goes after the one before it
 next_in_order : (bs : List ℕ) (start j : ℕ) → VersionFits bs start (j + 1)

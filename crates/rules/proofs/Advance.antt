@@ -43,10 +43,10 @@ module _ (P : Parts) (lawful : PartialOrder P.order) (v : State) (h : List Event
       elim (cases_eq a l) [
         | inl e ↦ elim (cases_lt q.k j) [
           | inl lt ↦
-              let n-above : j < n = prec.own e in
+              let n_above : j < n = prec.own e in
               let p : Version = new.blocked.predecessor in
-              let low : p.number ≤ q.k = (q.guard e).between p new.blocked.stands (omega (arith, new.blocked.below, n-above)) in
-              let clash : p.number ≡ q.k → ⊥ = λ same. omega (arith, (q.guard e).mark p new.blocked.stands same, new.blocked.unread, n-above) in
+              let low : p.number ≤ q.k = (q.guard e).between p new.blocked.stands (omega (arith, new.blocked.below, n_above)) in
+              let clash : p.number ≡ q.k → ⊥ = λ same. omega (arith, (q.guard e).mark p new.blocked.stands same, new.blocked.unread, n_above) in
               absurd (elim q.source [
                 | inl z ↦ clash (omega (arith, low, z.0))
                 | inr w ↦ elim (kept.ended_writer q.k b w.1.stores w.1.finish) [
@@ -66,7 +66,7 @@ module _ (P : Parts) (lawful : PartialOrder P.order) (v : State) (h : List Event
     outside_kept : (a l n t x b : ℕ) → RowKept v h s.tables a x (row_of s.items x) → Advance P h s h' s' a x → OutsideKept P v h s a l n t x b
         → OutsideKept P v h' s' a l n t x b
     outside_kept a l n t x b kept adv q =
-        let below-k : (j r : ℕ) → Newcomer s.tables a (row_of s.items x) j r → Precedes l n t a j r → j ≤ q.k =
+        let below_k : (j r : ℕ) → Newcomer s.tables a (row_of s.items x) j r → Precedes l n t a j r → j ≤ q.k =
         newcomer_outside a l n t x b kept q in
         record {
           k = q.k;
@@ -78,11 +78,11 @@ module _ (P : Parts) (lawful : PartialOrder P.order) (v : State) (h : List Event
               w.2,
             )
           ];
-          quiet = λ j r c live prec. elim (adv.writers j r c live) [ inl old ↦ q.quiet j r old.0 old.1 prec | inr new ↦ below-k j r new prec ];
+          quiet = λ j r c live prec. elim (adv.writers j r c live) [ inl old ↦ q.quiet j r old.0 old.1 prec | inr new ↦ below_k j r new prec ];
           guard = λ e. record {
             between = λ w i lt. elim (adv.versions w i) [
               | inl old ↦ let g = (q.guard e).between old.0 old.1 (omega (arith, old.2, lt)) in omega (arith, g, old.2)
-              | inr new ↦ below-k w.number w.stamp new (record { own = λ _. lt; lower = λ ne. absurd (ne e) })
+              | inr new ↦ below_k w.number w.stamp new (record { own = λ _. lt; lower = λ ne. absurd (ne e) })
             ];
             mark = λ w i same. elim (adv.versions w i) [
               | inl old ↦ let g = (q.guard e).mark old.0 old.1 (old.2 ∙ same) in omega (arith, g, old.3)

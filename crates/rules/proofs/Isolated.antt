@@ -104,48 +104,48 @@ edits_of_level a its x (e ∷ es) h = (h, edits_of_level a its x es h)
 
 -- items: rows of the levels that pass stay, and the others become empty
 module _ (p : ℕ → Bool) where
-  abbrev masked-item : Item → Item
-  masked-item it = record { level = it.level; row = cond (p it.level) it.row [] }
+  abbrev masked_item : Item → Item
+  masked_item it = record { level = it.level; row = cond (p it.level) it.row [] }
 
-  abbrev masked-items : List Item → List Item
-  masked-items its = map masked-item its
+  abbrev masked_items : List Item → List Item
+  masked_items its = map masked_item its
 
   change_seen : (e : Edit) (its : List Item) (x : ℕ) → p (level_of its x) ≡ true
-      → masked-items (changed_at (item_after e) its x) ≡ changed_at (item_after e) (masked-items its) x
+      → masked_items (changed_at (item_after e) its x) ≡ changed_at (item_after e) (masked_items its) x
   change_seen e [] x h = refl
   change_seen e (it ∷ its) zero h = rw h
-  change_seen e (it ∷ its) (suc x) h = ap (λ xs. masked-item it ∷ xs) (change_seen e its x h)
+  change_seen e (it ∷ its) (suc x) h = ap (λ xs. masked_item it ∷ xs) (change_seen e its x h)
 
   change_hidden : (e : Edit) (its : List Item) (x : ℕ) → p (level_of its x) ≡ false
-      → masked-items (changed_at (item_after e) its x) ≡ masked-items its
+      → masked_items (changed_at (item_after e) its x) ≡ masked_items its
   change_hidden e [] x h = refl
   change_hidden e (it ∷ its) zero h = rw h
-  change_hidden e (it ∷ its) (suc x) h = ap (λ xs. masked-item it ∷ xs) (change_hidden e its x h)
+  change_hidden e (it ∷ its) (suc x) h = ap (λ xs. masked_item it ∷ xs) (change_hidden e its x h)
 
   edits_seen : (a : ℕ) (its : List Item) (es : List ItemEdit) → p a ≡ true → OfLevel a its es
-      → masked-items (items_through its es) ≡ items_through (masked-items its) es
+      → masked_items (items_through its es) ≡ items_through (masked_items its) es
   edits_seen a its [] h k = refl
   edits_seen a its (e ∷ es) h k =
       let x = e.item in
-      let one : masked-items (items_after its x e.edit) ≡ items_after (masked-items its) x e.edit =
-      ap masked-items (after_is its x e.edit)
+      let one : masked_items (items_after its x e.edit) ≡ items_after (masked_items its) x e.edit =
+      ap masked_items (after_is its x e.edit)
       ∙ change_seen e.edit its x (ap p k.0 ∙ h)
-      ∙ sym (after_is (masked-items its) x e.edit) in
+      ∙ sym (after_is (masked_items its) x e.edit) in
       edits_seen a (items_after its x e.edit) es h (of_level_after a its x e.edit es k.1)
       ∙ ap (λ xs. items_through xs es) one
 
   edits_hidden : (a : ℕ) (its : List Item) (es : List ItemEdit) → p a ≡ false → OfLevel a its es
-      → masked-items (items_through its es) ≡ masked-items its
+      → masked_items (items_through its es) ≡ masked_items its
   edits_hidden a its [] h k = refl
   edits_hidden a its (e ∷ es) h k =
       let x = e.item in
       edits_hidden a (items_after its x e.edit) es h (of_level_after a its x e.edit es k.1)
-      ∙ ap masked-items (after_is its x e.edit)
+      ∙ ap masked_items (after_is its x e.edit)
       ∙ change_hidden e.edit its x (ap p k.0 ∙ h)
 
   -- the edits of an end
   end_seen : (f : Chosen → Edit) (a n x : ℕ) (its : List Item) → p a ≡ true
-      → end_edits f a n x (masked-items its) ≡ end_edits f a n x its
+      → end_edits f a n x (masked_items its) ≡ end_edits f a n x its
   end_seen f a n x [] h = refl
   end_seen f a n x (it ∷ its) h =
       elim (cases_Bool (eqb it.level a)) [
@@ -156,17 +156,17 @@ module _ (p : ℕ → Bool) where
       ]
 
   -- equal rows at the levels that pass are what the masks have
-  level_masked : (its : List Item) (x : ℕ) → level_of (masked-items its) x ≡ level_of its x
+  level_masked : (its : List Item) (x : ℕ) → level_of (masked_items its) x ≡ level_of its x
   level_masked [] x = refl
   level_masked (it ∷ its) zero = refl
   level_masked (it ∷ its) (suc x) = level_masked its x
 
-  row_masked : (its : List Item) (x : ℕ) → p (level_of its x) ≡ true → row_of (masked-items its) x ≡ row_of its x
+  row_masked : (its : List Item) (x : ℕ) → p (level_of its x) ≡ true → row_of (masked_items its) x ≡ row_of its x
   row_masked [] x h = refl
   row_masked (it ∷ its) zero h = rw h
   row_masked (it ∷ its) (suc x) h = row_masked its x h
 
-  rows_from_masked : (its jts : List Item) → masked-items its ≡ masked-items jts
+  rows_from_masked : (its jts : List Item) → masked_items its ≡ masked_items jts
       → (x : ℕ) → p (level_of its x) ≡ true → row_of its x ≡ row_of jts x
   rows_from_masked its jts e x h =
       let levels : level_of jts x ≡ level_of its x =
@@ -174,7 +174,7 @@ module _ (p : ℕ → Bool) where
       sym (row_masked its x h) ∙ ap (λ xs. row_of xs x) e ∙ row_masked jts x (ap p levels ∙ h)
 
   masked_from_rows : (its jts : List Item) → map (λ it. it.level) its ≡ map (λ it. it.level) jts
-      → ((x : ℕ) → p (level_of its x) ≡ true → row_of its x ≡ row_of jts x) → masked-items its ≡ masked-items jts
+      → ((x : ℕ) → p (level_of its x) ≡ true → row_of its x ≡ row_of jts x) → masked_items its ≡ masked_items jts
   masked_from_rows [] [] e h = refl
   masked_from_rows [] (j ∷ jts) e h = cc
   masked_from_rows (i ∷ its) [] e h = cc
@@ -273,7 +273,7 @@ module _ (P : Parts) (l : ℕ) where
     sound = s.sound;
     clock = s.clock;
     tables = masked_tables sees s.tables;
-    items = masked-items sees s.items;
+    items = masked_items sees s.items;
   }
 
   -- what a call leaves, seen; and a call of what is seen
@@ -350,7 +350,7 @@ module _ (P : Parts) (l : ℕ) where
     sender_same n = rw table_same
 
   module _ (law : PartialOrder P.order) (s : State) (a : ℕ) (is : sees a ≡ true) where
-    read_item_same : (n : ℕ) (h : Held) (it : Item) → read_item P (seen s) a n h (masked-item sees it) ≡ read_item P s a n h it
+    read_item_same : (n : ℕ) (h : Held) (it : Item) → read_item P (seen s) a n h (masked_item sees it) ≡ read_item P s a n h it
     read_item_same n h it =
         elim (cases_Bool (P.order.dominates a it.level)) [
           | inl e ↦
@@ -359,7 +359,7 @@ module _ (P : Parts) (l : ℕ) where
           | inr e ↦ rw e
         ]
 
-    write_item_same : (n v : ℕ) (h : Held) (it : Item) → write_item a n v h (masked-item sees it) ≡ write_item a n v h it
+    write_item_same : (n v : ℕ) (h : Held) (it : Item) → write_item a n v h (masked_item sees it) ≡ write_item a n v h it
     write_item_same n v h it =
         elim (cases_Bool (eqb it.level a)) [
           | inl e ↦
@@ -369,15 +369,15 @@ module _ (P : Parts) (l : ℕ) where
         ]
 
     -- an item that is looked up
-    found_same : {B : Type 0} (f g : Item → Result B Refusal) → ((it : Item) → f (masked-item sees it) ≡ g it) → (i : Option Item)
-        → and_then (known (option_map (masked-item sees) i) UnknownItem) f ≡ and_then (known i UnknownItem) g
+    found_same : {B : Type 0} (f g : Item → Result B Refusal) → ((it : Item) → f (masked_item sees it) ≡ g it) → (i : Option Item)
+        → and_then (known (option_map (masked_item sees) i) UnknownItem) f ≡ and_then (known i UnknownItem) g
     found_same f g h None = refl
     found_same f g h (Some it) = h it
 
-    item_same : {B : Type 0} (x : ℕ) (f g : Item → Result B Refusal) → ((it : Item) → f (masked-item sees it) ≡ g it)
+    item_same : {B : Type 0} (x : ℕ) (f g : Item → Result B Refusal) → ((it : Item) → f (masked_item sees it) ≡ g it)
         → and_then (item_of (seen s) x) f ≡ and_then (item_of s x) g
     item_same x f g h =
-        ap (λ i. and_then (known i UnknownItem) f) (slice_get-map (masked-item sees) s.items x) ∙ found_same f g h (slice_get s.items x)
+        ap (λ i. and_then (known i UnknownItem) f) (slice_get-map (masked_item sees) s.items x) ∙ found_same f g h (slice_get s.items x)
 
     sent_same : {B : Type 0} (n : ℕ) (f g : Held → Result B Refusal) → ((h : Held) → f h ≡ g h)
         → and_then (sender P (seen s) a n) f ≡ and_then (sender P s a n) g

@@ -14,7 +14,7 @@ use Rattle.rules.specs.Reached.{Newest, NewestNeverLost}
 use Rattle.rules.specs.Runs.{step, run}
 use Rattle.rules.specs.Starts.{Lawful}
 use Rattle.rules.specs.States.{Parts, State, with_clock, items_through, edits_of}
-use Rattle.rules.specs.Steps.{settled, sender, next_clock, admission, admitted, reading, read_edits, read_done, two_committed, writing, write_edits, write_done, commit_edit, abort_edit, end_edits, ended as end-done}
+use Rattle.rules.specs.Steps.{settled, sender, next_clock, admission, admitted, reading, read_edits, read_done, two_committed, writing, write_edits, write_done, commit_edit, abort_edit, end_edits, ended as end_done}
 use Rattle.rules.specs.declared.call.Call.{Call}
 use Rattle.rules.specs.declared.call.Call.TheVariants.{Tick, Begin, Read, Write, Commit, Abort}
 use Rattle.rules.specs.declared.decision.Admission.{Admission}
@@ -169,13 +169,13 @@ module _ (P : Parts) (lawful : Lawful P) (v : State) (h : List Event) (s : State
   write_lasts l n x b y (Err e) q = lasts_same (row_of s.items y)
   write_lasts l n x b y (Ok w) q = let f = writing_ok P s l n x b w q in write_way l n x b w f f.way y
 
-  commit_lasts : (l n y : ℕ) (r : Result Held Refusal) → sender P s l n ≡ r → Lasts (row_of s.items y) (row_of (settled s (end-done commit_edit s l n) r).1.items y)
+  commit_lasts : (l n y : ℕ) (r : Result Held Refusal) → sender P s l n ≡ r → Lasts (row_of s.items y) (row_of (settled s (end_done commit_edit s l n) r).1.items y)
   commit_lasts l n y (Err e) q = lasts_same (row_of s.items y)
   commit_lasts l n y (Ok hd) q =
       let active = sender_active P s l n hd (sender_ok P s l n hd q) in
       end_rows commit_edit l n y (λ kept. commit_row l n hd.stamp y active (row_of s.items y) kept (last_that (numbered n) (row_of s.items y)) refl)
 
-  abort_lasts : (l n y : ℕ) (r : Result Held Refusal) → sender P s l n ≡ r → Lasts (row_of s.items y) (row_of (settled s (end-done abort_edit s l n) r).1.items y)
+  abort_lasts : (l n y : ℕ) (r : Result Held Refusal) → sender P s l n ≡ r → Lasts (row_of s.items y) (row_of (settled s (end_done abort_edit s l n) r).1.items y)
   abort_lasts l n y (Err e) q = lasts_same (row_of s.items y)
   abort_lasts l n y (Ok hd) q =
       let active = sender_active P s l n hd (sender_ok P s l n hd q) in

@@ -16,7 +16,7 @@ use Rattle.rules.specs.Runs.{Sent, accepted, answer_by, step, run, log}
 use Rattle.rules.specs.Serial.{Fed, skipped, begun, got, wrote, commits, fed_begin, fed_call, feeds, Transaction, transactions}
 use Rattle.rules.specs.Starts.{Lawful, Start}
 use Rattle.rules.specs.States.{Parts, State, table_at, with_clock, with_table, with_items, items_through}
-use Rattle.rules.specs.Steps.{settled, sender, next_clock, admission, admitted, reading, read_done, writing, write_done, commit_edit, abort_edit, end_edits, ended as end-done}
+use Rattle.rules.specs.Steps.{settled, sender, next_clock, admission, admitted, reading, read_done, writing, write_done, commit_edit, abort_edit, end_edits, ended as end_done}
 use Rattle.rules.specs.Watermarks.{floor}
 use Rattle.rules.specs.declared.answer.Answer.{Answer}
 use Rattle.rules.specs.declared.answer.Answer.TheVariants.{Clock, Begun, Value, Done, Refused}
@@ -192,11 +192,11 @@ module _ (P : Parts) (lawful : Lawful P) (v : State) (h : List Event) (s : State
   write_on x (Err e) = stays
   write_on x (Ok w) = moved_on s.clock (write_done s x w).1.items (omega arith)
 
-  commit_on : (l n : ℕ) (r : Result Held Refusal) → sender P s l n ≡ r → Onward P s (settled s (end-done commit_edit s l n) r).1
+  commit_on : (l n : ℕ) (r : Result Held Refusal) → sender P s l n ≡ r → Onward P s (settled s (end_done commit_edit s l n) r).1
   commit_on l n (Err e) q = stays
   commit_on l n (Ok hd) q = end_on l n hd (sender_ok P s l n hd q) (items_through s.items (end_edits commit_edit l n 0 s.items))
 
-  abort_on : (l n : ℕ) (r : Result Held Refusal) → sender P s l n ≡ r → Onward P s (settled s (end-done abort_edit s l n) r).1
+  abort_on : (l n : ℕ) (r : Result Held Refusal) → sender P s l n ≡ r → Onward P s (settled s (end_done abort_edit s l n) r).1
   abort_on l n (Err e) q = stays
   abort_on l n (Ok hd) q = end_on l n hd (sender_ok P s l n hd q) (items_through s.items (end_edits abort_edit l n 0 s.items))
 

@@ -341,7 +341,7 @@ module _ (P : Parts) (lawful : PartialOrder P.order) (v : State) (h : List Event
           let ver : Version = q.chosen.version in
           let ev : Event = saw l n x r.value in
           let m : Mild ev = saw_mild l n x r.value in
-          let marked-version : Original v x ver ⊎ Owned h s.tables (level_of v.items x) x ver
+          let marked_version : Original v x ver ⊎ Owned h s.tables (level_of v.items x) x ver
           → Original v x (marked n ver) ⊎ Owned h s.tables (level_of v.items x) x (marked n ver) =
           λ k. elim k [
             | inl o ↦ inl (record { number = o.number; stamp = o.stamp; state = o.state; value = o.value })
@@ -350,7 +350,7 @@ module _ (P : Parts) (lawful : PartialOrder P.order) (v : State) (h : List Event
           elim (cases_eq y x) [
             | inl e ↦ rw e (row_mild v h s.tables (level_of v.items x) x (row_of after x) ev m (λ _ _. refl)
                 (replaced_kept v h s.tables (level_of v.items x) x (row_of s.items x) (row_of after x) ver (marked n ver) F.stands refl F.changed
-                (marked-version (F.kept.version ver F.stands)) (λ z i _. F.kept.version z i)
+                (marked_version (F.kept.version ver F.stands)) (λ z i _. F.kept.version z i)
                 (row_writers v h s.tables (level_of v.items x) x (row_of s.items x) F.kept)))
             | inr ne ↦ rw (row_other s.items x y (Put q.chosen.place (marked n ver)) ne)
                 (row_mild v h s.tables (level_of v.items y) y (row_of s.items y) ev m (λ _ _. refl) (I.rows y lt))

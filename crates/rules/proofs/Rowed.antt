@@ -307,7 +307,7 @@ predecessor_sides row c w h last fresh low high = (up_to_it, behind)
     behind u i =
         let at = nth_of_drop u (suc c.place) row i in
         let here : In u row = in_nth row at.0 u at.2 in
-        let not-less = ltb-false u.number w.number (last.none_later at.0 u (omega (arith, at.1)) at.2) in
+        let not_less = ltb-false u.number w.number (last.none_later at.0 u (omega (arith, at.1)) at.2) in
         let more : w.number < u.number =
         elim (cases_eq u.number w.number) [ inl e ↦ absurd (fresh u here e) | inr d ↦ omega arith ] in
         record { number = more; stamp = high u here more }
@@ -456,13 +456,13 @@ ended_from f l n x zero y (jt ∷ rest) its it e q v r h =
     let o = last_that (numbered n) it.row in
     let here : y ≡ x = omega arith in
     let es = item_edits f l n x jt in
-    let es-is : es ≡ end_edit f y o =
+    let es_is : es ≡ end_edit f y o =
     ap (item_edits f l n x) same
     ∙ cond-true (eqb it.level l) (end_edit f x o) [] (eq-eqb it.level l v)
     ∙ ap (λ z. end_edit f z o) (sym here) in
     ap (λ z. row_of z y) (through_join its es (end_edits f l n (x + 1) rest))
     ∙ earlier_kept f l n (x + 1) y rest (items_through its es) (omega arith)
-    ∙ ap (λ z. row_of (items_through its z) y) es-is
+    ∙ ap (λ z. row_of (items_through its z) y) es_is
     ∙ end_row_here f y o its h
     ∙ ap (λ z. end_row f z o) r
 ended_from f l n x (suc k) y (jt ∷ rest) its it e q v r h =

@@ -17,7 +17,7 @@ use Rattle.rules.specs.Runs.{answer_by, step, run, log}
 use Rattle.rules.specs.Serial.{newest_value, value_of}
 use Rattle.rules.specs.Starts.{is_first, fits_order, unfit_from, Lawful, Start}
 use Rattle.rules.specs.States.{Parts, State, with_clock, with_items, items_through, edits_of}
-use Rattle.rules.specs.Steps.{settled, sender, next_clock, admission, admitted, reading, read_edits, read_done, writing, write_edits, write_done, commit_edit, abort_edit, ended as end-done}
+use Rattle.rules.specs.Steps.{settled, sender, next_clock, admission, admitted, reading, read_edits, read_done, writing, write_edits, write_done, commit_edit, abort_edit, ended as end_done}
 use Rattle.rules.specs.declared.answer.Answer.TheVariants.{Begun, Value, Done}
 use Rattle.rules.specs.declared.call.Call.{Call}
 use Rattle.rules.specs.declared.call.Call.TheVariants.{Tick, Begin, Read, Write, Commit, Abort}
@@ -76,11 +76,11 @@ module _ (P : Parts) (lawful : Lawful P) (v : State) (h : List Event) (s : State
   write_kept l n x b (Ok w) q = let f = writing_ok P s l n x b w q in write_way l n x b w f f.way
 
   commit_kept : (l n : ℕ) (r : Result Held Refusal) → sender P s l n ≡ r
-      → Inv P v (event (Commit l n) (answer_by (λ _. Done) (settled s (end-done commit_edit s l n) r).0) ∷ h) (settled s (end-done commit_edit s l n) r).1
+      → Inv P v (event (Commit l n) (answer_by (λ _. Done) (settled s (end_done commit_edit s l n) r).0) ∷ h) (settled s (end_done commit_edit s l n) r).1
   commit_kept l n (Err e) q = unchanged
   commit_kept l n (Ok hd) q = inv_commit P lawful.order v h s I l n hd (sender_ok P s l n hd q)
 
-  abort_kept : (l n : ℕ) (r : Result Held Refusal) → sender P s l n ≡ r → Inv P v (idle ∷ h) (settled s (end-done abort_edit s l n) r).1
+  abort_kept : (l n : ℕ) (r : Result Held Refusal) → sender P s l n ≡ r → Inv P v (idle ∷ h) (settled s (end_done abort_edit s l n) r).1
   abort_kept l n (Err e) q = unchanged
   abort_kept l n (Ok hd) q = inv_abort P lawful.order v h s I l n hd (sender_ok P s l n hd q)
 
@@ -145,7 +145,7 @@ inv_start P v st =
     let tables : v.tables ≡ replicate 16 empty_table = ap (λ (y : State). y.tables) st.fresh in
     let table : (l : ℕ) → table_of v.tables l ≡ empty_table = λ l. ap (λ ts. table_of ts l) tables ∙ empty_everywhere 16 l in
     let clock : v.clock ≡ 1 = ap (λ (y : State). y.clock) st.fresh in
-    let idle-tables : (l n t : ℕ) → ActiveIn v.tables l n t → ⊥ =
+    let idle_tables : (l n t : ℕ) → ActiveIn v.tables l n t → ⊥ =
     λ l n t i. never_open 8 n t (subst (λ (y : Table). In (Open n t) y.places) (table l) i) in
     record {
       frame = record {
@@ -160,8 +160,8 @@ inv_start P v st =
         given = λ l n t i. absurd i;
         once = λ l n t r i j. absurd i;
         rising = λ l n t k r i j lt. absurd i;
-        active = λ l n t i. absurd (idle-tables l n t i);
-        distinct = λ l i j n s t e f. absurd (idle-tables l n s (in_nth (table_of v.tables l).places i (Open n s) e));
+        active = λ l n t i. absurd (idle_tables l n t i);
+        distinct = λ l i j n s t e f. absurd (idle_tables l n s (in_nth (table_of v.tables l).places i (Open n s) e));
         over = λ l n t i j. i;
         ended_began = λ l n i. absurd i;
       };

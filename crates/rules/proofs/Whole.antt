@@ -12,7 +12,7 @@ use Rattle.rules.specs.Members.{In}
 use Rattle.rules.specs.Runs.{answer_by, step, run, log}
 use Rattle.rules.specs.Serial.{fed_call, feeds, Transaction, is_named, committed_ones, RunningOrder, Values, serial_reads, serial_values, answer_to, answered, value_of, newest, SerialRunGivesAnsweredValues, RunningOrderExists}
 use Rattle.rules.specs.States.{Parts, State}
-use Rattle.rules.specs.Steps.{settled, sender, admission, admitted, reading, read_done, writing, write_done, commit_edit, ended as end-done}
+use Rattle.rules.specs.Steps.{settled, sender, admission, admitted, reading, read_done, writing, write_done, commit_edit, ended as end_done}
 use Rattle.rules.specs.Watermarks.{strictly_dominates}
 use Rattle.rules.specs.declared.answer.Answer.{Answer}
 use Rattle.rules.specs.declared.answer.Answer.TheVariants.{Begun, Value, Done}
@@ -159,7 +159,7 @@ module _ (P : Parts) (s : State) where
   write_tells l n x b (Ok a) = record { fed = refl; seen = λ u es. refl }
   write_tells l n x b (Err e) = record { fed = refl; seen = λ u es. refl }
 
-  commit_tells : (l n : ℕ) (r : Result Held Refusal) → Tells (Commit l n) (answer_by (λ _. Done) (settled s (end-done commit_edit s l n) r).0)
+  commit_tells : (l n : ℕ) (r : Result Held Refusal) → Tells (Commit l n) (answer_by (λ _. Done) (settled s (end_done commit_edit s l n) r).0)
   commit_tells l n (Ok a) = record { fed = refl; seen = λ u es. refl }
   commit_tells l n (Err e) = record { fed = refl; seen = λ u es. refl }
 

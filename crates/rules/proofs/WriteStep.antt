@@ -161,7 +161,7 @@ module _ (P : Parts) (lawful : PartialOrder P.order) (v : State) (h : List Event
         let m : Mild ev = stored_mild l n x b in
         let edits = edits_of x es in
         let next : State = moved s s.clock (items_through s.items edits) in
-        let here-advance : Advance P h s (ev ∷ h) next l x = record {
+        let here_advance : Advance P h s (ev ∷ h) next l x = record {
           starts = λ a k t i. inr i;
           ends = λ a k i. inr i;
           stores = λ k c i q. stored_not_here h l n x b l k (λ e. facts.not_over (subst (λ z. Ended h l z) e i)) ∙ q;
@@ -182,7 +182,7 @@ module _ (P : Parts) (lawful : PartialOrder P.order) (v : State) (h : List Event
           reads = reads_kept P lawful v h s I.times (ev ∷ h) next I.rows
               (λ y lt. elim (cases_eq y x) [
                 | inl e ↦ subst (λ z. Advance P h s (ev ∷ h) next (level_of v.items z) z) (sym e)
-                    (subst (λ a. Advance P h s (ev ∷ h) next a x) (sym facts.level) here-advance)
+                    (subst (λ a. Advance P h s (ev ∷ h) next a x) (sym facts.level) here_advance)
                 | inr ne ↦ advance_mild P h s (level_of v.items y) y ev m (stored_elsewhere h l n x b y ne) s.clock (items_through s.items edits) (omega arith)
                     (rw (rows_elsewhere x y es s.items ne) (same_numbers (row_of s.items y)))
               ]) h I.reads;
