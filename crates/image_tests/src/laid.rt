@@ -158,7 +158,7 @@ fn how_many_bytes(rt: HostRuntime) -> Result<(), Fail> {
 }
 
 #[test]
-fn each_fault_has_its_offset(rt: HostRuntime) -> Result<(), Fail> {
+fn each_fault_of_rows_has_its_offset(rt: HostRuntime) -> Result<(), Fail> {
     try_row(&rt, "level 16", 16, &[], 396, Some(10))?;
     try_row(&rt, "no version", 0, &[], 396, Some(11))?;
     try_row(
