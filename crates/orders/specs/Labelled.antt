@@ -1,10 +1,10 @@
 -- Labels under `covers` are partially ordered, and so is a list of labels no two of which are equal. Assumes nothing.
-use Rattle.std.specs.Prelude.{◌≡◌, ℕ, zero, suc, ◌+◌, ◌<◌, ◌≤◌, true, false, not, ◌||◌, List, [], ◌∷◌, ◌++◌, length, get_or, take, drop, Some, None, Decides, Option, ◌==◌, bit_and, nat_le, slice_index_or, slice_set, refl}
+use Rattle.std.specs.Prelude.{◌≡◌, ℕ, zero, suc, ◌+◌, ◌<◌, ◌≤◌, true, false, not, List, [], ◌∷◌, ◌++◌, length, get_or, take, Some, None, Decides, Option, ◌==◌, bit_and, nat_le, slice_set, refl}
 use Rattle.std.proofs.Common.{inl, inr, sym, ap, ap₂, ◌∙◌, arith}
 use Rattle.std.proofs.lemmas.Nat.{and_comm}
 use Rattle.std.proofs.lemmas.Option.{none-some, same_Some, slice_get_within}
-use Rattle.std.proofs.lemmas.List.{length-set, length-take-le, get_or-take, take_more_set, at_drop_more}
-use Rattle.std.proofs.lemmas.Option.{slice_get-get_or, slice_get_past}
+use Rattle.std.proofs.lemmas.List.{length-take-le, take_more_set}
+use Rattle.std.proofs.lemmas.Option.{slice_get-get_or}
 use Rattle.std.proofs.lemmas.Bool.{and_parts, and_from, eqb-true, eq-eqb, leb-true, le-leb, or_right, or_left, or_parts, or_from, not-true, not_from_false, both_ways, cases_Bool, false≢true}
 use Rattle.std.proofs.lemmas.Bool.Decides.{nat_tests, Decides-by_or}
 use Rattle.std.specs.List.{ContainsAt as Has, slice_get}
@@ -69,11 +69,6 @@ holds_at : (xs : List Label) (x y : Label) (i : ℕ) → slice_get xs i ≡ Some
 holds_at [] x y i h k = absurd (none-some x h)
 holds_at (z ∷ zs) x y zero h k = or_left (equal_labels z y) (holds zs y) (rw (same_Some z x h) k)
 holds_at (z ∷ zs) x y (suc i) h k = or_right (equal_labels z y) (holds zs y) (holds_at zs x y i h k)
-
--- a step of a search through the labels
-pub holds_more : (xs : List Label) (l d : Label) (i : ℕ) → i < length xs
-    → holds (drop i xs) l ≡ (equal_labels (slice_index_or xs i d) l || holds (drop (i + 1) xs) l)
-holds_more xs l d i h = at_drop_more (λ ys. holds ys l) xs i d h
 
 -- one label more that is not there yet
 pub distinct_push : (xs : List Label) (l : Label) → distinct xs ≡ true → holds xs l ≡ false → distinct (xs ++ l ∷ []) ≡ true
@@ -149,32 +144,10 @@ walled_lawful ls some few d = record {
   lower_level = λ a b h. let ab = dominates_parts ls a b h in slice_get_within ls b ab.lower ab.lower_is;
 }
 
--- the label at a place of the first n of a longer list
-pub front_label : (n : ℕ) (ls : List Label) (a : ℕ) (d : Label) → n ≤ length ls → a < n → slice_get (take n ls) a ≡ Some (slice_index_or ls a d)
-front_label n ls a d fits h =
-    let inside : a < length (take n ls) = omega (arith, length-take-le n ls fits) in
-    slice_get-get_or (take n ls) a d inside ∙ ap Some (get_or-take n ls a d h)
-
-pub no_label : (n : ℕ) (ls : List Label) (a : ℕ) → n ≤ length ls → n ≤ a → slice_get (take n ls) a ≡ None
-no_label n ls a fits h = slice_get_past (take n ls) a (omega (arith, length-take-le n ls fits))
-
--- a label that is not refused, stored behind the first n of 16 places
-pub record Stored (n : ℕ) (ls : List Label) (l : Label) : Type 0 where
-  pub full : length (slice_set ls n l) ≡ 16
-  pub few : n + 1 ≤ 16
-  pub after : take (n + 1) (slice_set ls n l) ≡ take n ls ++ l ∷ []
-  pub unequal : distinct (take (n + 1) (slice_set ls n l)) ≡ true
-
-pub stored : (n : ℕ) (ls : List Label) (l : Label) → length ls ≡ 16 → n ≤ 16 → distinct (take n ls) ≡ true
-    → label_refusal (take n ls) l ≡ None → Stored n ls l
-stored n ls l full few d e =
+-- a label that is not refused, stored behind the first n of 16 places: no two are equal still
+pub distinct_stored : (n : ℕ) (ls : List Label) (l : Label) → length ls ≡ 16 → distinct (take n ls) ≡ true → label_refusal (take n ls) l ≡ None
+    → n < 16 → distinct (take (n + 1) (slice_set ls n l)) ≡ true
+distinct_stored n ls l full d e room =
     let count : length (take n ls) ≡ n = length-take-le n ls (omega arith) in
-    let room : n < 16 = grind (arith, nat_tests) in
     let new : holds (take n ls) l ≡ false = grind (arith, nat_tests) in
-    let after : take (n + 1) (slice_set ls n l) ≡ take n ls ++ l ∷ [] = take_more_set ls n l (omega arith) in
-    record {
-      full = length-set ls n l ∙ full;
-      few = omega arith;
-      after = after;
-      unequal = ap distinct after ∙ distinct_push (take n ls) l d new;
-    }
+    ap distinct (take_more_set ls n l (omega arith)) ∙ distinct_push (take n ls) l d new

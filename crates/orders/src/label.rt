@@ -1,11 +1,9 @@
 // What a level of walls carries: a rank, and a set of up to 16 walls, one bit each.
 ghost use Rattle.std.specs.Prelude.{◌≡◌, Decides};
 ghost use Rattle.std.specs.List.{ContainsAt as Has};
-ghost use Rattle.orders.specs.Labels.{includes, covers, Covers, equal_labels, holds};
-ghost use Rattle.std.specs.Cmp.Rules.{comparing};
-ghost use Rattle.std.proofs.Common.{rules};
+ghost use Rattle.orders.specs.Labels.{includes, covers, Covers, holds};
 
-#[derive(Clone, Copy)]
+#[derive(Clone, Copy, PartialEq, Eq, Debug)]
 pub struct Label {
     pub rank: u8,
     pub walls: u16,
@@ -25,22 +23,7 @@ impl Label {
         ensures value { result ≡ holds labels.now self }
         ensures exact { Decides result (Has labels.now self) }
     {
-        for label in labels {
-            if *label == self {
-                return true;
-            }
-        }
-        false
-    }
-}
-
-impl PartialEq for Label {
-    ghost eq = { λ a b. equal_labels a b };
-
-    ghost laws = { Prim.search (comparing, rules) };
-
-    fn eq(&self, other: &Label) -> bool {
-        self.rank == other.rank && self.walls == other.walls
+        labels.contains(&self)
     }
 }
 

@@ -2,19 +2,23 @@
 ghost use Rattle.std.specs.Prelude.{◌≡◌};
 ghost use Rattle.orders.specs.Refusals.{number, count_refusal, unless};
 
-#[derive(Clone, Copy, PartialEq, Eq, Debug)]
+use thiserror::Error;
+
+#[derive(Clone, Copy, PartialEq, Eq, Debug, Error)]
 pub enum OrderRefusal {
-    // The number of levels is not from 1 to 16.
+    #[error("an order has 1 to 16 levels")]
     LevelCount,
     // Two levels would dominate each other, or another law of orders fails.
+    #[error("a law of orders is broken")]
     LawBroken,
 }
 
-impl OrderRefusal {
-    pub fn number(self) -> u8
-        ensures { result ≡ number self }
-    {
-        match self {
+// The number under which a refusal is known outside.
+impl From<OrderRefusal> for u8 {
+    ghost from_gives = { λ refusal n. n ≡ number refusal };
+
+    fn from(refusal: OrderRefusal) -> u8 {
+        match refusal {
             OrderRefusal::LevelCount => 1,
             OrderRefusal::LawBroken => 2,
         }
@@ -25,7 +29,7 @@ impl OrderRefusal {
 pub(crate) fn check_count(levels: u8) -> Result<(), OrderRefusal>
     ensures { result ≡ unless (count_refusal levels) tt }
 {
-    if levels < 1 || levels > 16 {
+    if !(1..=16).contains(&levels) {
         return Err(OrderRefusal::LevelCount);
     }
     Ok(())

@@ -8,6 +8,7 @@ mod order;
 mod rows;
 
 // A relation on 1 to 16 levels, lawful or not. Rows and bits from `count` on mean nothing.
+// An array and a count, since an order allocates nothing.
 #[derive(Clone, Copy)]
 struct Relation {
     rows: [u16; 16],

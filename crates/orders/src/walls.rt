@@ -9,6 +9,7 @@ mod build;
 mod order;
 
 // Up to 16 labels, no two of them equal, in the order of their levels.
+// An array and a count, since an order allocates nothing and a refusal leaves the unused places as they were too.
 #[derive(Clone, Copy)]
 pub struct WallsBuilder {
     labels: [Label; 16],

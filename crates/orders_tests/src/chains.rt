@@ -1,4 +1,4 @@
-// Chains: each refusal, and who dominates whom.
+// Chains: each refusal with its number and its text, and who dominates whom.
 use crate::rows::is_order;
 use orders::{Chain, OrderRefusal};
 use std::test::Fail;
@@ -10,7 +10,7 @@ fn level_counts(rt: HostRuntime) -> Result<(), Fail> {
     }
     is_order(&rt, &Chain::new(1)?, 1, &[(0, 1), (1, 0)]);
     is_order(&rt, &Chain::new(16)?, 16, &[(0, 1), (15, 0xffff), (16, 0)]);
-    assert_eq!(rt; OrderRefusal::LevelCount.number(), 1);
+    assert_eq!(rt; u8::from(OrderRefusal::LevelCount), 1);
     Ok(())
 }
 
@@ -22,5 +22,16 @@ fn each_dominates_those_below(rt: HostRuntime) -> Result<(), Fail> {
         3,
         &[(0, 0b001), (1, 0b011), (2, 0b111), (3, 0), (255, 0)],
     );
+    Ok(())
+}
+
+#[test]
+fn a_refusal_tells_why(rt: HostRuntime) -> Result<(), Fail> {
+    for (refusal, text) in [
+        (OrderRefusal::LevelCount, "an order has 1 to 16 levels"),
+        (OrderRefusal::LawBroken, "a law of orders is broken"),
+    ] {
+        assert_eq!(rt; format!(in rt.alloc(); "{refusal}")?.as_str(), text);
+    }
     Ok(())
 }

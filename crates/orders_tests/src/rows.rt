@@ -3,13 +3,9 @@ use orders::LevelOrder;
 use std::process::Abort;
 
 fn row<O: LevelOrder>(order: &O, a: u8) -> u16 {
-    let mut bits = 0;
-    for b in 0..16 {
-        if order.dominates(a, b) {
-            bits |= 1 << b;
-        }
-    }
-    bits
+    (0..16)
+        .filter(|b| order.dominates(a, *b))
+        .fold(0, |bits, b| bits | 1 << b)
 }
 
 // Whether an order has so many levels, and each number dominates what the table says.

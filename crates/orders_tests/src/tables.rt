@@ -4,11 +4,9 @@ use orders::{OrderRefusal, Table};
 use std::test::Fail;
 
 // Three rows, and beyond them rows that would break every law.
-fn table(a: u16, b: u16, c: u16) -> Result<Table, OrderRefusal> {
+fn table(three: [u16; 3]) -> Result<Table, OrderRefusal> {
     let mut rows = [0x5555; 16];
-    rows[0] = a;
-    rows[1] = b;
-    rows[2] = c;
+    rows[..3].copy_from_slice(&three);
     Table::new(3, rows)
 }
 
@@ -31,23 +29,16 @@ fn level_counts_come_first(rt: HostRuntime) -> Result<(), Fail> {
 #[test]
 fn each_law_is_tested(rt: HostRuntime) {
     let broken = [
-        (0b000, 0b010, 0b100, "0 does not dominate itself"),
-        (0b001, 0b010, 0b000, "2 does not dominate itself"),
-        (0b011, 0b011, 0b100, "0 and 1 dominate each other"),
+        ([0b000, 0b010, 0b100], "0 does not dominate itself"),
+        ([0b001, 0b010, 0b000], "2 does not dominate itself"),
+        ([0b011, 0b011, 0b100], "0 and 1 dominate each other"),
         (
-            0b001,
-            0b011,
-            0b110,
+            [0b001, 0b011, 0b110],
             "2 dominates 1, which dominates 0, but not 0",
         ),
     ];
-    for (a, b, c, why) in broken {
-        assert_eq!(rt;
-            table(a, b, c).err(),
-            Some(OrderRefusal::LawBroken),
-            "{}",
-            why
-        );
+    for (three, why) in broken {
+        assert_eq!(rt; table(three).err(), Some(OrderRefusal::LawBroken), "{why}");
     }
 }
 
@@ -55,7 +46,7 @@ fn each_law_is_tested(rt: HostRuntime) {
 fn a_lawful_table(rt: HostRuntime) -> Result<(), Fail> {
     is_order(
         &rt,
-        &table(0b101, 0b010, 0b100)?,
+        &table([0b101, 0b010, 0b100])?,
         3,
         &[(0, 0b101), (1, 0b010), (2, 0b100), (3, 0)],
     );
@@ -66,7 +57,7 @@ fn a_lawful_table(rt: HostRuntime) -> Result<(), Fail> {
 fn bits_beyond_the_levels_mean_nothing(rt: HostRuntime) -> Result<(), Fail> {
     is_order(
         &rt,
-        &table(0b1001, 0b010, 0b1111_1111_1111_1100)?,
+        &table([0b1001, 0b010, 0b1111_1111_1111_1100])?,
         3,
         &[(0, 0b001), (1, 0b010), (2, 0b100), (3, 0)],
     );

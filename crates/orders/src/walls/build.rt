@@ -25,27 +25,22 @@ impl WallsBuilder {
         ensures after { labels_of self.new ≡ with_label (labels_of self.old) label }
         ensures refused { is_err result ≡ true → self.new ≡ self.old }
     {
-        match self.refusal(label) {
-            Some(refusal) => Err(refusal),
-            None => {
-                self.push(label);
-                Ok(())
-            }
-        }
+        self.check_label(label)?;
+        self.push(label);
+        Ok(())
     }
 
-    // Why a label would be refused, if it would.
-    fn refusal(&self, label: Label) -> Option<OrderRefusal>
-        ensures { result ≡ label_refusal (labels_of self.now) label }
+    // Whether a label more can be taken.
+    fn check_label(&self, label: Label) -> Result<(), OrderRefusal>
+        ensures { result ≡ unless (label_refusal (labels_of self.now) label) tt }
     {
-        let count = self.count as usize;
-        if count >= 16 {
-            return Some(OrderRefusal::LevelCount);
+        if self.count >= 16 {
+            return Err(OrderRefusal::LevelCount);
         }
-        if label.stands_in(&self.labels[0..count]) {
-            return Some(OrderRefusal::LawBroken);
+        if label.stands_in(self.labels()) {
+            return Err(OrderRefusal::LawBroken);
         }
-        None
+        Ok(())
     }
 
     // Stores a label that is not refused.

@@ -11,14 +11,18 @@ use crate::order::LevelOrder;
 use crate::walls::{Walls, WallsBuilder};
 
 impl WallsBuilder {
+    // The labels taken so far.
+    pub(super) fn labels(&self) -> &[Label]
+        ensures { result.now ≡ labels_of self.now }
+    {
+        &self.labels[..self.count as usize]
+    }
+
     // The label of a level, if there is such a level.
     fn label(&self, level: u8) -> Option<Label>
         ensures { result ≡ slice_get (labels_of self.now) level }
     {
-        if level >= self.count {
-            return None;
-        }
-        Some(self.labels[level as usize])
+        self.labels().get(level as usize).copied()
     }
 }
 

@@ -1,13 +1,8 @@
-use Rattle.orders.specs.Labelled.{stored}
+use Rattle.std.proofs.Common.{rules}
+use Rattle.orders.specs.Labelled.{distinct_stored}
 use Rattle.orders.proofs.walls.WallsBuilder.push.Goals as goal
 
-pub invariant_of-self : goal.invariant_of-self
-invariant_of-self c =
+pub invariant_of-self-clause-unequal : goal.invariant_of-self-clause-unequal
+invariant_of-self-clause-unequal c =
     let b = c.args.self.now in
-    let s = stored b.count b.labels c.args.label b.full b.few b.unequal c.requires in
-    record { full = s.full; few = s.few; unequal = s.unequal }
-
-pub returns : goal.returns
-returns c =
-    let b = c.args.self.now in
-    (stored b.count b.labels c.args.label b.full b.few b.unequal c.requires).after
+    distinct_stored b.count b.labels c.args.label b.full b.unequal c.requires (search rules)
