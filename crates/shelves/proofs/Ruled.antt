@@ -1,39 +1,38 @@
--- The test of the row rule decides the rule, and the steps of the loops that compute it. Assumes nothing.
-use Rattle.std.proofs.Common.{◌≡◌, ℕ, zero, suc, ◌+◌, ◌-◌, ◌<◌, ◌≤◌, true, ◌&&◌, ◌||◌, ltb, leb, List, [], ◌∷◌, length, get_or, drop, Some, Decides, refl, ap, ◌∙◌, subst, inl, inr, arith}
-use Rattle.std.specs.List.{ContainsAt as Has, slice_get}
+-- The test of the row rule decides the rule, and what iterators answer of a row is that test. Assumes nothing.
+use Rattle.std.proofs.Common.{◌≡◌, ℕ, zero, suc, ◌+◌, ◌<◌, ◌≤◌, Bool, true, false, ◌&&◌, ◌||◌, ltb, leb, List, [], ◌∷◌, length, get_or, Some, Decides, refl, sym, ap, ◌∙◌, subst, arith}
+use native.Mathlib.Numerals.{unary_clauses}
+use Rattle.std.specs.List.{ContainsAt as Has, AllAdjacentBelow, IsAllAdjacentAnswer, list_any, slice_get}
 use Rattle.std.proofs.lemmas.Option.{none-some, same_Some}
 use Rattle.std.proofs.ByRecursion.{has_get_or}
-use Rattle.std.proofs.lemmas.List.{at_drop_more, drop_more, drop_all}
-use Rattle.std.proofs.lemmas.Bool.{and_parts, and_from, leb-true, ltb-true, le-leb, lt-ltb, cases_lt, false≢true}
-use Rattle.std.proofs.lemmas.Bool.Decides.{Decides-by_or}
+use Rattle.std.proofs.lemmas.Bool.{and_parts, and_from, and_left, and_right, leb-true, ltb-true, le-leb, lt-ltb, false≢true}
+use Rattle.std.proofs.lemmas.Bool.Decides.{Decides-at, Decides-by_or}
 use Rattle.shelves.specs.declared.version.State.{State}
 use Rattle.shelves.specs.declared.version.State.TheVariants.{Committed, Pending}
 use Rattle.shelves.specs.declared.version.Version.{Version}
 use Rattle.shelves.specs.Edits.{blank}
 use Rattle.shelves.specs.Rows.{is_committed, goes_before, leads, in_order, any_committed, keeps_rule, RowRule}
 
--- the loops
-pub committed_more : (vs : List Version) (i : ℕ) → i < length vs
-    → any_committed (drop i vs) ≡ (is_committed (get_or vs i blank).state || any_committed (drop (i + 1) vs))
-committed_more vs i h = at_drop_more any_committed vs i blank h
+-- neighbours in order, as `is_sorted_by` says it
+neighbours_order : (vs : List Version) → AllAdjacentBelow (λ v w. true ≡ goes_before v w) vs (length vs) → in_order vs ≡ true
+neighbours_order [] h = refl
+neighbours_order (x ∷ []) h = refl
+neighbours_order (x ∷ y ∷ zs) h =
+    and_from (goes_before x y) (in_order (y ∷ zs)) (sym (h 0 x (omega arith))) (neighbours_order (y ∷ zs) (λ k d l. simp unary_clauses (simp unary_clauses at h (suc k) d (omega arith))))
 
-pub order_more : (vs : List Version) (i : ℕ) → 1 ≤ i → i < length vs
-    → in_order (drop (i - 1) vs) ≡ (goes_before (get_or vs (i - 1) blank) (get_or vs i blank) && in_order (drop i vs))
-order_more vs i some h =
-    let v : Version = get_or vs (i - 1) blank in
-    let back : i - 1 + 1 ≡ i = omega arith in
-    let first : drop (i - 1) vs ≡ v ∷ drop i vs = drop_more vs (i - 1) blank (omega arith) ∙ ap (λ n. v ∷ drop n vs) back in
-    ap in_order first ∙ ap (λ ws. leads v ws && in_order (drop i vs)) (drop_more vs i blank h)
+wrong_order : (vs : List Version) (k : ℕ) → k + 1 < length vs → ((d : Version) → false ≡ goes_before (get_or vs k d) (get_or vs (k + 1) d)) → in_order vs ≡ false
+wrong_order [] k l f = absurd (omega arith)
+wrong_order (x ∷ []) k l f = absurd (omega arith)
+wrong_order (x ∷ y ∷ zs) zero l f = and_left (goes_before x y) (in_order (y ∷ zs)) (sym (f x))
+wrong_order (x ∷ y ∷ zs) (suc k) l f = and_right (goes_before x y) (in_order (y ∷ zs)) (wrong_order (y ∷ zs) k (omega arith) (λ d. simp unary_clauses (simp unary_clauses at f d)))
 
-pub order_end : (vs : List Version) (i : ℕ) → 1 ≤ i → length vs ≤ i → in_order (drop (i - 1) vs) ≡ true
-order_end vs i some h =
-    elim (cases_lt (i - 1) (length vs)) [
-      | inl l ↦
-          let last : drop (i - 1) vs ≡ get_or vs (i - 1) blank ∷ [] =
-          drop_more vs (i - 1) blank l ∙ ap (λ ws. get_or vs (i - 1) blank ∷ ws) (drop_all (i - 1 + 1) vs (omega arith)) in
-          ap in_order last
-      | inr l ↦ ap in_order (drop_all (i - 1) vs l)
-    ]
+pub sorted_in_order : (vs : List Version) (r : Bool) → IsAllAdjacentAnswer (λ v w b. b ≡ goes_before v w) vs r → r ≡ in_order vs
+sorted_in_order vs true h = sym (neighbours_order vs h)
+sorted_in_order vs false h = sym (wrong_order vs h.0 h.1 h.2)
+
+-- one committed, as `any` says it
+pub any_listed : (vs : List Version) → list_any (λ v. is_committed v.state) vs ≡ any_committed vs
+any_listed [] = refl
+any_listed (v ∷ vs) = ap (λ b. is_committed v.state || b) (any_listed vs)
 
 -- the rule in words
 record Before (v w : Version) : Type 0 where
@@ -109,3 +108,6 @@ rule_decides vs = (forth, back)
         (and_from (in_order vs) (any_committed vs)
         (pairs_order vs (λ i j v w l a b. record { number = r.numbers_rise i j v w l a b; stamp = r.stamps_never_fall i j v w l a b }))
         ((committed_decides vs).1 r.one_committed))
+
+pub rule_by_test : (vs : List Version) (r : Bool) → r ≡ keeps_rule vs → Decides r (RowRule vs)
+rule_by_test vs r h = Decides-at r (keeps_rule vs) h (rule_decides vs)

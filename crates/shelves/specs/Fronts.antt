@@ -1,17 +1,14 @@
 -- The first n of a longer list, looked at, changed and lengthened. Assumes nothing.
-use Rattle.std.specs.Prelude.{◌≡◌, ℕ, ◌+◌, ◌<◌, ◌≤◌, List, [], ◌∷◌, ◌++◌, map, length, get_or, take, set, Some, None, slice_index_or, slice_set}
+use Rattle.std.specs.Prelude.{◌≡◌, ℕ, ◌+◌, ◌<◌, ◌≤◌, List, [], ◌∷◌, ◌++◌, map, length, take, set, Some, None, slice_index_or, slice_set}
 use Rattle.std.proofs.Common.{sym, ap, ◌∙◌, arith}
 use Rattle.std.proofs.Math.Seq.{take-set-lt}
 use Rattle.std.specs.Option.{option_map}
 use Rattle.std.specs.List.{slice_get}
-use Rattle.std.proofs.lemmas.Option.{slice_get-get_or, slice_get-map, slice_get_within, same_Some}
+use Rattle.std.proofs.lemmas.Option.{slice_get-get_or, slice_get-map, slice_get_past, get_or_from_slice_get}
 use Rattle.std.proofs.lemmas.List.{length-map, length-take-le, get_or-take, map-set, map_push, set-get_or, take_more_set}
-use Rattle.std.proofs.lemmas.Option.{slice_get_past}
 
 pub set_same : {X : Type 0} (xs : List X) (i : ℕ) (x : X) → slice_get xs i ≡ Some x → slice_set xs i x ≡ xs
-set_same xs i x h =
-    let is : get_or xs i x ≡ x = same_Some (slice_index_or xs i x) x (sym (slice_get-get_or xs i x (slice_get_within xs i x h)) ∙ h) in
-    ap (set xs i) (sym is) ∙ set-get_or xs i x
+set_same xs i x h = ap (set xs i) (sym (get_or_from_slice_get xs i x x h)) ∙ set-get_or xs i x
 
 module _ {X : Type 0} (n : ℕ) (xs : List X) (fits : n ≤ length xs) where
   pub front_at : (i : ℕ) (d : X) → i < n → slice_get (take n xs) i ≡ Some (slice_index_or xs i d)

@@ -6,3 +6,6 @@ pub mod Rows
 pub mod Drawn
 pub mod Fronts
 pub mod Placed
+pub mod RowEdits
+pub mod States
+pub mod RowsAfter

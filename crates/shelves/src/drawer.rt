@@ -1,28 +1,23 @@
 // A shelf that holds up to 64 items itself.
-ghost use Rattle.std.specs.Prelude.{◌≡◌, ◌≤◌, true, length, take};
-ghost use Rattle.shelves.specs.Rows.{keeps_rule};
+ghost use Rattle.std.specs.Prelude.{◌≡◌, ◌≤◌, length};
 
-use crate::version::Version;
+use crate::row::Row;
 
 mod items;
-mod rows;
 
-// An item: its level, and eight places of which its row uses the first `count`.
+// An item: its level and its row.
 #[derive(Clone, Copy)]
-struct Row {
+struct Entry {
     level: u8,
-    count: usize,
-    places: [Version; 8],
-    ghost full: { length places ≡ 8 },
-    ghost few: { count ≤ 8 },
-    ghost ruled: { keeps_rule (take count places) ≡ true },
+    row: Row,
 }
 
-// Items 0 to `count` - 1 are the first rows; the others mean nothing.
+// Items 0 to `count` - 1 are the first entries; the others mean nothing.
+// They are a plain array: shelves allocate nothing, and a refused edit leaves the unused entries equal too.
 #[derive(Drop)]
 pub struct Drawer {
-    rows: [Row; 64],
+    entries: [Entry; 64],
     count: u32,
-    ghost full: { length rows ≡ 64 },
+    ghost full: { length entries ≡ 64 },
     ghost few: { count ≤ 64 },
 }

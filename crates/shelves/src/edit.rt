@@ -5,7 +5,7 @@ mod places;
 
 pub use places::BLANK;
 
-#[derive(Clone, Copy)]
+#[derive(Clone, Copy, PartialEq, Eq, Debug)]
 pub enum Edit {
     // Replaces the version at the place.
     Put(usize, Version),

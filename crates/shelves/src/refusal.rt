@@ -2,17 +2,20 @@
 ghost use Rattle.std.specs.Prelude.{◌≡◌};
 ghost use Rattle.shelves.specs.Refusals.{number};
 
-#[derive(Clone, Copy, PartialEq, Eq, Debug)]
+use thiserror::Error;
+
+#[derive(Clone, Copy, PartialEq, Eq, Debug, Error)]
 pub enum ShelfRefusal {
-    // A drawer has 64 items already.
+    #[error("a drawer has 64 items already")]
     DrawerFull,
 }
 
-impl ShelfRefusal {
-    pub fn number(self) -> u8
-        ensures { result ≡ number self }
-    {
-        match self {
+// The number under which a refusal is known outside.
+impl From<ShelfRefusal> for u8 {
+    ghost from_gives = { λ refusal code. code ≡ number refusal };
+
+    fn from(refusal: ShelfRefusal) -> u8 {
+        match refusal {
             ShelfRefusal::DrawerFull => 3,
         }
     }

@@ -9,49 +9,30 @@ pub fn keeps_rule(row: &[Version]) -> bool
     ensures value { result ≡ keeps_rule row.now }
     ensures exact { Decides result (RowRule row.now) }
 {
-    passes(row)
+    (1..=8).contains(&row.len()) && in_order(row) && any_committed(row)
 }
 
-fn passes(row: &[Version]) -> bool
-    ensures { result ≡ keeps_rule row.now }
-{
-    row.len() >= 1 && row.len() <= 8 && in_order(row) && any_committed(row)
-}
-
-fn goes_before(v: Version, w: Version) -> bool
-    ensures { result ≡ goes_before v w }
+fn goes_before(v: &Version, w: &Version) -> bool
+    ensures { result ≡ goes_before v.now w.now }
 {
     v.number < w.number && v.stamp <= w.stamp
-}
-
-fn is_committed(v: Version) -> bool
-    ensures { result ≡ is_committed v.state }
-{
-    match v.state {
-        State::Committed => true,
-        State::Pending => false,
-    }
 }
 
 fn in_order(row: &[Version]) -> bool
     ensures { result ≡ in_order row.now }
 {
-    for i in 1..row.len() {
-        if !goes_before(row[i - 1], row[i]) {
-            return false;
-        }
-    }
-    true
+    row.is_sorted_by(goes_before)
+}
+
+fn is_committed(version: &Version) -> bool
+    ensures { result ≡ is_committed version.now.state }
+{
+    version.state == State::Committed
 }
 
 // Whether one of the versions is committed.
 pub fn any_committed(row: &[Version]) -> bool
     ensures { result ≡ any_committed row.now }
 {
-    for version in row {
-        if is_committed(*version) {
-            return true;
-        }
-    }
-    false
+    row.iter().any(is_committed)
 }

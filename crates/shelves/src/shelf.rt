@@ -32,7 +32,8 @@ pub trait Shelf {
     fn look(&self, item: u32, place: usize) -> Option<Version>
         ensures { result ≡ slice_get (row_of (items self.now) item) place };
 
-    // Edits. Each says whether it was accepted; if not, the shelf is as it was.
+    // Edits. Each says whether it was accepted; if not, the shelf is as it was. Yes or no, since that is all that there is to
+    // say: an error would have nothing to add.
 
     fn put(&mut self, item: u32, place: usize, version: Version) -> bool
         ensures answer { result ≡ accepts_at (items self.old) item (Edit.Put place version) }

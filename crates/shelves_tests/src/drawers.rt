@@ -5,21 +5,21 @@ use std::test::Fail;
 
 // Puts back what it looked at.
 fn put_back<S: Shelf>(shelf: &mut S, item: u32, place: usize) -> bool {
-    match shelf.look(item, place) {
-        Some(version) => shelf.put(item, place, version),
-        None => false,
-    }
+    shelf
+        .look(item, place)
+        .is_some_and(|version| shelf.put(item, place, version))
 }
 
 #[test]
 fn sixty_four_items(rt: HostRuntime) -> Result<(), Fail> {
     let mut drawer = Drawer::new();
     assert_eq!(rt; drawer.count(), 0);
+    // The number is the level itself.
     for k in 0..64u8 {
         assert_eq!(rt; drawer.add(k, u64::from(k) * 10), Ok(()));
     }
     assert_eq!(rt; drawer.add(1, 1), Err(ShelfRefusal::DrawerFull));
-    assert_eq!(rt; ShelfRefusal::DrawerFull.number(), 3);
+    assert_eq!(rt; u8::from(ShelfRefusal::DrawerFull), 3);
     assert_eq!(rt; drawer.count(), 64);
     assert_eq!(rt; drawer.level(63), 63);
     assert_eq!(rt; drawer.look(63, 0).ok_or("no version")?.value, 630);
@@ -87,6 +87,7 @@ fn refused_edits_change_nothing(rt: HostRuntime) {
 fn a_ninth_version(rt: HostRuntime) {
     let mut drawer = Drawer::new();
     assert_eq!(rt; drawer.add(0, 0), Ok(()));
+    // The number is the version itself.
     for n in 1..8u32 {
         assert!(rt; drawer.insert(0, n as usize, version(n, 1, State::Committed)));
     }

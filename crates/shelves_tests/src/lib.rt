@@ -1,4 +1,4 @@
-// Tests of the row rule and of the drawer, and generic code in a crate of its own that relies on what every shelf
+// Tests of the row rule, of rows and of the drawer, and generic code in a crate of its own that relies on what every shelf
 // promises.
 #![tactic(auto)]
 
@@ -9,7 +9,11 @@ use shelves::Shelf;
 #[cfg(test)]
 mod drawers;
 #[cfg(test)]
+mod rows;
+#[cfg(test)]
 mod rules;
+#[cfg(test)]
+mod states;
 
 // No shelf has more than 4,096 items.
 pub fn few_items<S: Shelf>(shelf: &S) -> u32

@@ -1,28 +1,52 @@
 // The items of a drawer.
-ghost use Rattle.std.specs.Prelude.{◌≡◌, true, false, [], is_err};
+ghost use Rattle.std.specs.Prelude.{◌≡◌, true, false, [], is_err, MatchOption};
 ghost use Rattle.std.specs.Option.{option_map};
 ghost use Rattle.std.specs.List.{slice_get};
-ghost use Rattle.shelves.specs.Drawers.{row_item, drawer_items, DrawerEdited};
-ghost use Rattle.shelves.specs.Items.{accepts_at, items_after, add_answer, items_with_new};
+ghost use Rattle.shelves.specs.Drawers.{entry_item, drawer_items, EntryEdited, DrawerEdited};
+ghost use Rattle.shelves.specs.Edits.{accepts};
+ghost use Rattle.shelves.specs.Items.{accepts_at, items_after, add_answer, items_with_new, first_item};
 ghost use Rattle.shelves.specs.Drawn.{drawer_lawful, drawer_traced};
 
-use crate::drawer::{Drawer, Row};
+use crate::drawer::{Drawer, Entry};
 use crate::edit::Edit;
 use crate::refusal::ShelfRefusal;
+use crate::row::Row;
 use crate::shelf::Shelf;
 use crate::version::Version;
+
+impl Entry {
+    fn new(level: u8, value: u64) -> Entry
+        ensures { entry_item result ≡ first_item level value }
+    {
+        Entry {
+            level,
+            row: Row::first(value),
+        }
+    }
+
+    // The item after an edit, if that is accepted.
+    fn edited(&self, edit: Edit) -> Option<Entry>
+        ensures { MatchOption result (accepts edit (entry_item self.now).row ≡ false) (EntryEdited edit self.now) }
+    {
+        Some(Entry {
+            row: self.row.edited(edit)?,
+            ..*self
+        })
+    }
+}
 
 impl Drawer {
     pub fn new() -> Drawer
         ensures { drawer_items result ≡ [] }
     {
         Drawer {
-            rows: [Row::new(0, 0); 64],
+            entries: [Entry::new(0, 0); 64],
             count: 0,
         }
     }
 
     // Adds an item with a first value, as the next number. A sixty-fifth is refused, and then nothing has changed.
+    #[tactic(auto, using(crate::specs::Drawn::no_room, crate::specs::Drawn::room_left, crate::specs::Fronts::map_front_push))]
     pub fn add(&mut self, level: u8, value: u64) -> Result<(), ShelfRefusal>
         ensures answer { result ≡ add_answer (drawer_items self.old) }
         ensures after { drawer_items self.new ≡ items_with_new (drawer_items self.old) level value }
@@ -31,21 +55,18 @@ impl Drawer {
         if self.count >= 64 {
             return Err(ShelfRefusal::DrawerFull);
         }
-        let row = Row::new(level, value);
-        self.rows[self.count as usize] = row;
+        self.entries[self.count as usize] = Entry::new(level, value);
         self.count += 1;
         Ok(())
     }
 
-    fn row(&self, item: u32) -> Option<Row>
-        ensures { option_map row_item result ≡ slice_get (drawer_items self.now) item }
+    fn entry(&self, item: u32) -> Option<&Entry>
+        ensures { option_map (λ entry. entry_item entry.now) result ≡ slice_get (drawer_items self.now) item }
     {
-        if item >= self.count {
-            return None;
-        }
-        Some(self.rows[item as usize])
+        self.entries[..self.count as usize].get(item as usize)
     }
 
+    #[tactic(auto, using(crate::specs::Drawn::refused_edit, crate::proofs::Stays::items_kept))]
     fn edit(&mut self, item: u32, edit: Edit) -> bool
         ensures answer { result ≡ accepts_at (drawer_items self.old) item edit }
         ensures after { drawer_items self.new ≡ items_after (drawer_items self.old) item edit }
@@ -55,13 +76,11 @@ impl Drawer {
         if item >= self.count {
             return false;
         }
-        match self.rows[item as usize].edited(edit) {
-            None => false,
-            Some(next) => {
-                self.rows[item as usize] = next;
-                true
-            }
-        }
+        let Some(next) = self.entries[item as usize].edited(edit) else {
+            return false;
+        };
+        self.entries[item as usize] = next;
+        true
     }
 }
 
@@ -79,24 +98,15 @@ impl Shelf for Drawer {
     }
 
     fn level(&self, item: u32) -> u8 {
-        match self.row(item) {
-            Some(row) => row.level,
-            None => 0,
-        }
+        self.entry(item).map_or(0, |entry| entry.level)
     }
 
     fn versions(&self, item: u32) -> usize {
-        match self.row(item) {
-            Some(row) => row.count,
-            None => 0,
-        }
+        self.entry(item).map_or(0, |entry| entry.row.len())
     }
 
     fn look(&self, item: u32, place: usize) -> Option<Version> {
-        match self.row(item) {
-            Some(row) => row.look(place),
-            None => None,
-        }
+        self.entry(item)?.row.look(place)
     }
 
     fn put(&mut self, item: u32, place: usize, version: Version) -> bool {

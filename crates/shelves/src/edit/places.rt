@@ -20,9 +20,8 @@ impl Edit {
         ensures { result ≡ fits self count }
     {
         match self {
-            Edit::Put(place, _) => place < count,
+            Edit::Put(place, _) | Edit::Remove(place) => place < count,
             Edit::Insert(place, _) => place <= count,
-            Edit::Remove(place) => place < count,
         }
     }
 
@@ -32,8 +31,8 @@ impl Edit {
     {
         let count = count as usize;
         match self {
-            Edit::Put(_, _) => count,
-            Edit::Insert(_, _) => count + 1,
+            Edit::Put(..) => count,
+            Edit::Insert(..) => count + 1,
             Edit::Remove(_) => count.saturating_sub(1),
         }
     }
@@ -44,25 +43,14 @@ impl Edit {
         ensures { result ≡ place_after self places.now j }
     {
         match self {
-            Edit::Put(place, version) => { if j == place { version } else { places[j] } }
-            Edit::Insert(place, version) => {
-                if j < place {
-                    places[j]
-                } else if j == place {
-                    version
-                } else {
-                    places[j - 1]
-                }
-            }
-            Edit::Remove(place) => {
-                if j < place {
-                    places[j]
-                } else if j < 7 {
-                    places[j + 1]
-                } else {
-                    BLANK
-                }
-            }
+            Edit::Put(place, version) if j == place => version,
+            Edit::Put(..) => places[j],
+            Edit::Insert(place, _) if j < place => places[j],
+            Edit::Insert(place, version) if j == place => version,
+            Edit::Insert(..) => places[j - 1],
+            Edit::Remove(place) if j < place => places[j],
+            Edit::Remove(_) if j < 7 => places[j + 1],
+            Edit::Remove(_) => BLANK,
         }
     }
 
@@ -70,10 +58,6 @@ impl Edit {
     pub fn places_after(self, places: &[Version; 8]) -> [Version; 8]
         ensures { result ≡ places_after self places.now }
     {
-        let mut next = [BLANK; 8];
-        for j in 0..8 {
-            next[j] = self.place_after(places, j);
-        }
-        next
+        std::array::from_fn(|j| self.place_after(places, j))
     }
 }

@@ -1,21 +1,12 @@
-use Rattle.std.proofs.Common.{sym, ◌∙◌}
-use Rattle.std.proofs.lemmas.List.{at_drop_all}
-use Rattle.shelves.specs.Rows.{any_committed}
-use Rattle.shelves.proofs.Ruled.{committed_more}
+use Rattle.std.proofs.Common.{rules, tests, ◌∙◌}
+use Rattle.std.proofs.lemmas.Iterator.{YieldsList-from_slice}
+use Rattle.std.proofs.lemmas.Iterator.Search.{any_from_yields_List}
+use Rattle.shelves.specs.Rows.{is_committed}
+use Rattle.shelves.proofs.Ruled.{any_listed}
 use Rattle.shelves.proofs.rule.any_committed.Goals as goal
-
-pub returns-then-is_committed : goal.returns-then-is_committed
-returns-then-is_committed c =
-    let more = committed_more c.args.row.now c.loop-version.version-index c.loop-version-test.true in
-    let found = c.if-is_committed.ensures in
-    sym (sym c.loop-version.invariant ∙ more ∙ rw (← found))
-
-pub loop-version-preserved : goal.loop-version-preserved
-loop-version-preserved c =
-    let more = committed_more c.args.row.now c.loop-version.version-index c.loop-version-test.true in
-    let other = c.if-is_committed.ensures in
-    rw (← other) at (sym more ∙ c.loop-version.invariant)
 
 pub returns : goal.returns
 returns c =
-    sym (at_drop_all any_committed c.args.row.now c.loop-version.version-index c.loop-version-test.false) ∙ c.loop-version.invariant
+    let vs = c.args.row.now in
+    any_from_yields_List (λ v. is_committed v.state) _ _ c.any.result c.any.ensures.ran (YieldsList-from_slice vs cc) (λ x b q k. search (rules, tests))
+    ∙ any_listed vs

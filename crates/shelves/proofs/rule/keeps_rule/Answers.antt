@@ -1,9 +1,9 @@
-use Rattle.std.proofs.lemmas.Bool.Decides.{Decides-at}
-use Rattle.shelves.specs.Rows.{keeps_rule}
-use Rattle.shelves.proofs.Ruled.{rule_decides}
+use Rattle.std.proofs.Common.{rules}
+use Rattle.shelves.proofs.Ruled.{rule_by_test}
 use Rattle.shelves.proofs.rule.keeps_rule.Goals as goal
 
-pub returns : goal.returns
-returns c =
-    let vs = c.args.row.now in
-    record { value = c.passes.ensures; exact = Decides-at c.passes.result (keeps_rule vs) c.passes.ensures (rule_decides vs) }
+pub returns-then-in_order-clause-exact : goal.returns-then-in_order-clause-exact
+returns-then-in_order-clause-exact c = rule_by_test c.args.row.now _ (search rules)
+
+pub returns-else-in_order-clause-exact : goal.returns-else-in_order-clause-exact
+returns-else-in_order-clause-exact c = rule_by_test c.args.row.now _ (search rules)
