@@ -2,8 +2,8 @@
 use Rattle.std.specs.Prelude.{ℕ, Bool}
 use Rattle.orders.specs.Orders.{Order}
 use Rattle.rules.specs.Watermarks.{strictly_dominates}
-use Rattle.choosing.specs.declared.collected.Reach.{Reach}
-use Rattle.choosing.specs.declared.collected.Reach.TheVariants.{AtOrBelow, Below}
+use Rattle.choosing.specs.declared.reach.Reach.{Reach}
+use Rattle.choosing.specs.declared.reach.Reach.TheVariants.{AtOrBelow, Below}
 
 -- level a is one of those that count for level l
 abbrev pub reaches : Order → Reach → ℕ → ℕ → Bool

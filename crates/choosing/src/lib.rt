@@ -3,10 +3,12 @@
 
 mod collected;
 mod placed;
+mod reach;
 mod version;
 mod watermark;
 
-pub use collected::{Collected, Reach, collect};
-pub use placed::entries;
+pub use collected::Collected;
+pub use placed::Entries;
+pub use reach::{Reach, collect};
 pub use version::{Wanted, choose};
 pub use watermark::{earliest, least};

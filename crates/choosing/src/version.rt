@@ -8,7 +8,8 @@ use rules::Chosen;
 use shelves::{Shelf, Version};
 
 // What is asked of a version.
-#[derive(Clone, Copy)]
+// It is an enum, and no closure: a public function asks nothing of its caller.
+#[derive(Clone, Copy, PartialEq, Eq, Debug)]
 pub enum Wanted {
     // Written by this transaction.
     Numbered(u32),
@@ -42,25 +43,17 @@ fn later(
 ) -> Option<Chosen>
     ensures { result ≡ later (passes wanted) best place found }
 {
-    match found {
-        Some(version) => {
-            if wanted.fits(version) {
-                Some(Chosen { place, version })
-            } else {
-                best
-            }
-        }
-        None => best,
-    }
+    found
+        .filter(|version| wanted.fits(*version))
+        .map(|version| Chosen { place, version })
+        .or(best)
 }
 
 // The last version of an item that fits.
 pub fn choose<S: Shelf>(shelf: &S, item: u32, wanted: Wanted) -> Option<Chosen>
     ensures { result ≡ last_that (passes wanted) (row_of (S.Shelf.items shelf.now) item) }
 {
-    let mut best = None;
-    for place in 0..shelf.versions(item) {
-        best = later(best, place, shelf.look(item, place), wanted);
-    }
-    best
+    (0..shelf.versions(item)).fold(None, |best, place| {
+        later(best, place, shelf.look(item, place), wanted)
+    })
 }

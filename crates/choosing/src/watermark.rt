@@ -4,7 +4,7 @@ ghost use Rattle.rules.specs.Watermarks.{least, stands_before, better, earliest}
 
 use tables::Active;
 
-// The least of the clock and the stamps.
+// The least of the clock and the stamps. A plain loop, as the rule is told: it goes through what was collected.
 pub fn least(clock: u32, list: &[Active]) -> u32
     ensures { result ≡ least clock list.now }
 {
@@ -19,25 +19,16 @@ pub fn least(clock: u32, list: &[Active]) -> u32
 fn stands_before(x: Active, y: Active) -> bool
     ensures { result ≡ stands_before x y }
 {
-    if x.stamp != y.stamp {
-        return x.stamp < y.stamp;
-    }
-    if x.level != y.level {
-        return x.level < y.level;
-    }
-    x.number < y.number
+    x < y
 }
 
 fn better(best: Option<Active>, x: Active) -> Active
     ensures { result ≡ better best x }
 {
-    match best {
-        None => x,
-        Some(y) => { if stands_before(x, y) { x } else { y } }
-    }
+    best.filter(|y| !stands_before(x, *y)).unwrap_or(x)
 }
 
-// The one before which none of the list stands.
+// The one before which none of the list stands. A plain loop as well.
 pub fn earliest(list: &[Active]) -> Option<Active>
     ensures { result ≡ earliest None list.now }
 {

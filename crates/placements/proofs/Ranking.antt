@@ -1,12 +1,13 @@
 -- The stamp that has k others before it is the one at which the counts of smaller and of no larger stamps lie on both
 -- sides of k; the counts do not depend on the order. Assumes nothing.
-use Rattle.std.proofs.Common.{◌≡◌, ℕ, zero, suc, ◌+◌, ◌<◌, ◌≤◌, Bool, true, false, ltb, leb, List, [], ◌∷◌, length, get_or, drop, Some, None, sum_by, sym, refl, ap, ◌∙◌, subst, inl, inr, arith}
-use Rattle.std.specs.List.{AllByRecursion, slice_get}
+use Rattle.std.proofs.Common.{◌≡◌, ℕ, zero, suc, ◌+◌, ◌<◌, ◌≤◌, Bool, true, false, ltb, leb, List, [], ◌∷◌, length, get_or, cond, MatchOption, Option, Some, None, zero-add, sum_by, sym, refl, ap, ◌∙◌, subst, inl, inr, arith}
+use Rattle.std.specs.List.{AllByRecursion, AllWithin, HoldsAt, count_by, slice_get}
 use Rattle.std.specs.List.Sorted.{IsPermutation}
 use Rattle.std.proofs.lemmas.Option.{none-some, same_Some}
-use Rattle.std.proofs.ByRecursion.{All-weaker, All-from_get_or, has_get_or}
-use Rattle.std.proofs.lemmas.List.{length-map, get_or-map, at_drop_more}
+use Rattle.std.proofs.ByRecursion.{All-weaker, All-from_get_or}
+use Rattle.std.proofs.lemmas.List.{length-map}
 use Rattle.std.proofs.lemmas.List.Sorted.{length_permutation, sum_by-IsPermutation}
+use Rattle.std.proofs.lemmas.List.Recursion.{is_count_by}
 use Rattle.std.proofs.lemmas.List.Sums.{sum_by-cons}
 use Rattle.std.proofs.lemmas.Bool.{and_parts, and_from, leb-true, leb-false, ltb-true, le-leb, lt-ltb, le-ltb, cases_lt, cases_order, both_ways, cond_both}
 use Rattle.std.proofs.lemmas.Option.{slice_get-get_or, slice_get_past}
@@ -65,10 +66,10 @@ rising_ascending [] = tt
 rising_ascending (x ∷ xs) = rising_slot x (ascending xs) (rising_ascending xs)
 
 -- the counts
-pub counted : (x t : ℕ) → x < t → one_if (ltb x t) ≡ 1
+counted : (x t : ℕ) → x < t → one_if (ltb x t) ≡ 1
 counted x t h = ap one_if (lt-ltb x t h)
 
-pub passed_over : (x t : ℕ) → t ≤ x → one_if (ltb x t) ≡ 0
+passed_over : (x t : ℕ) → t ≤ x → one_if (ltb x t) ≡ 0
 passed_over x t h = ap one_if (le-ltb x t h)
 
 at_most_one : (b : Bool) → one_if b ≤ 1
@@ -194,45 +195,33 @@ ranked_in_any_order es fs k h =
     (λ t. below_sum t fs ∙ sum_by-IsPermutation (λ e. one_if (ltb e.stamp t)) es fs h ∙ sym (below_sum t es))
     k
 
--- the stamp of the entry at place i
-abbrev pub stamp_at : List Entry → ℕ → ℕ
-stamp_at es i = (get_or es i (record { level = 0; stamp = 0 })).stamp
+-- what the first stamp that has the rank answers, or that none has it
+pub record Answered (es : List Entry) (k : ℕ) (r : Option ℕ) : Type 0 where
+  pub value : r ≡ ranked (stamps es) k
+  pub rank : MatchOption r (length es ≤ k) (Rank (stamps es) k)
 
-stamp_is : (es : List Entry) (i : ℕ) → i < length es → get_or (stamps es) i 0 ≡ stamp_at es i
-stamp_is es i h = get_or-map (λ e. e.stamp) es i (record { level = 0; stamp = 0 }) 0 h
-
--- what is known where the entry at place i has the rank
-pub record Found (es : List Entry) (i k : ℕ) : Type 0 where
-  pub value : ranked (stamps es) k ≡ Some (stamp_at es i)
-  pub rank : Rank (stamps es) k (stamp_at es i)
-
-pub found : (es : List Entry) (i k : ℕ) → i < length es → has_rank (stamps es) k (stamp_at es i) ≡ true → Found es i k
-found es i k h r =
-    let p = has_between (stamps es) k (stamp_at es i) r in
-    let inside : i < length (stamps es) = omega (arith, length-map es (λ (e : Entry). e.stamp)) in
+pub answered : (es : List Entry) (k : ℕ) (r : Option ℕ)
+    → MatchOption r (AllWithin (λ s. has_rank (stamps es) k s ≡ false) (stamps es) 0 (length (stamps es)))
+    (λ s. (has_rank (stamps es) k s ≡ true) × (i : ℕ) × (i < length (stamps es)) × HoldsAt (λ y. y ≡ s) (stamps es) i
+    × AllWithin (λ y. has_rank (stamps es) k y ≡ false) (stamps es) 0 i)
+    → Answered es k r
+answered es k None none =
+    let xs : List ℕ = stamps es in
+    let each : (i : ℕ) → i < length xs → has_rank xs k (get_or xs i 0) ≡ false = λ i h. none i 0 (omega arith) h in
+    let short = too_few xs k (All-from_get_or (λ s. has_rank xs k s ≡ false) xs 0 each) in
+    record { value = sym (ranked_none xs k short); rank = omega (arith, short, length-map es (λ (e : Entry). e.stamp)) }
+answered es k (Some s) w =
+    let p = has_between (stamps es) k s w.0 in
     record {
-      value = between_ranked (stamps es) k (stamp_at es i) p;
-      rank = record {
-        member = rw (stamp_is es i h) at (has_get_or (stamps es) i 0 inside);
-        smaller = p.smaller;
-        no_larger = p.no_larger;
-      };
+      value = sym (between_ranked (stamps es) k s p);
+      rank = record { member = (w.1, w.2, w.3); smaller = p.smaller; no_larger = p.no_larger };
     }
 
--- what is known where no entry has it
-pub record Missing (es : List Entry) (k : ℕ) : Type 0 where
-  pub value : ranked (stamps es) k ≡ None
-  pub short : length es ≤ k
+-- the count, in the library's word
+counted_or : (b : Bool) (n : ℕ) → one_if b + n ≡ cond b (1 + n) n
+counted_or true n = refl
+counted_or false n = zero-add n
 
-pub missing : (es : List Entry) (k : ℕ) → ((j : ℕ) → j < length es → has_rank (stamps es) k (stamp_at es j) ≡ false) → Missing es k
-missing es k none =
-    let len : length (stamps es) ≡ length es = length-map es (λ e. e.stamp) in
-    let each : (i : ℕ) → i < length (stamps es) → has_rank (stamps es) k (get_or (stamps es) i 0) ≡ false =
-    λ i h. let inside : i < length es = omega arith in ap (has_rank (stamps es) k) (stamp_is es i inside) ∙ none i inside in
-    let short = too_few (stamps es) k (All-from_get_or (λ s. has_rank (stamps es) k s ≡ false) (stamps es) 0 each) in
-    record { value = ranked_none (stamps es) k short; short = omega arith }
-
--- one entry counted
-pub below_more : (es : List Entry) (t i : ℕ) → i < length es
-    → below t (stamps (drop i es)) ≡ one_if (ltb (stamp_at es i) t) + below t (stamps (drop (i + 1) es))
-below_more es t i h = at_drop_more (λ fs. below t (stamps fs)) es i (record { level = 0; stamp = 0 }) h
+pub below_by_count : (t : ℕ) (es : List Entry) → below t (stamps es) ≡ count_by (λ e. ltb e.stamp t) es
+below_by_count t es =
+    is_count_by (λ fs. below t (stamps fs)) (λ e. ltb e.stamp t) refl (λ e fs. counted_or (ltb e.stamp t) (below t (stamps fs))) es

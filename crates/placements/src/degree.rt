@@ -22,6 +22,7 @@ impl Placement for ByDegree {
     }
 }
 
+// Where `lo` lies above `hi` the answer is `lo`; `clamp` has no answer there.
 fn keep_within(lo: u32, hi: u32, stamp: u32) -> u32
     ensures { result ≡ kept_within lo hi stamp }
 {

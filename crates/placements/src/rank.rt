@@ -33,12 +33,10 @@ pub fn ranked(entries: &[Entry], k: usize) -> Option<u32>
     ensures rank { MatchOption result (length entries.now ≤ k) (Rank (stamps entries.now) k) }
     ensures any_order { (others : List Entry) → IsPermutation entries.now others → result ≡ ranked (stamps others) k }
 {
-    for entry in entries {
-        if has_rank(entries, k, entry.stamp) {
-            return Some(entry.stamp);
-        }
-    }
-    None
+    entries
+        .iter()
+        .map(|entry| entry.stamp)
+        .find(|stamp| has_rank(entries, k, *stamp))
 }
 
 // Whether at most `k` stamps are smaller than `stamp`, and more than `k` are no larger.
@@ -53,11 +51,8 @@ fn has_rank(entries: &[Entry], k: usize, stamp: u32) -> bool
 fn below(entries: &[Entry], limit: u64) -> usize
     ensures { result ≡ below limit (stamps entries.now) }
 {
-    let mut count = 0;
-    for entry in entries {
-        if u64::from(entry.stamp) < limit {
-            count += 1;
-        }
-    }
-    count
+    entries
+        .iter()
+        .filter(|entry| u64::from(entry.stamp) < limit)
+        .count()
 }
