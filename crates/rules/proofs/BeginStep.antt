@@ -106,7 +106,7 @@ module _ (P : Parts) (lawful : Lawful P) (v : State) (h : List Event) (s : State
   cases_began b k r (inr i) = inr i
 
   ended_before : (b k : ℕ) → Ended (began l a.number a.stamp ∷ h) b k → Ended h b k
-  ended_before b k (inl e) = let z : ◌≡◌ {A = ℕ} 0 1 = cc in absurd (omega arith)
+  ended_before b k (inl e) = absurd cc
   ended_before b k (inr i) = i
 
   old_given : (b k r : ℕ) → Began h b k r → (k ≤ (table_of next b).number) × (r ≤ (table_of next b).stamp)
@@ -254,7 +254,7 @@ module _ (P : Parts) (lawful : Lawful P) (v : State) (h : List Event) (s : State
       ];
     };
     times = begin_times;
-    stores = stores_mild v h (began l a.number a.stamp) (λ b k x c e. let z : ◌≡◌ {A = ℕ} 0 1 = cc in omega arith) I.stores;
+    stores = stores_mild v h (began l a.number a.stamp) (λ b k x c e. cc) I.stores;
     rows = λ y lt. begin_row (level_of v.items y) y (row_of s.items y) (I.rows y lt);
     reads = reads_kept P lawful.order v h s I.times (began l a.number a.stamp ∷ h) (with_table s l (filled (table_of s.tables l) a.place a.number a.stamp))
         I.rows (λ y lt. begin_advance (level_of v.items y) y) h I.reads;

@@ -260,7 +260,7 @@ module _ (P : Parts) (lawful : PartialOrder P.order) (v : State) (h : List Event
   unfolding next end_items
   inv_commit =
       inv_end P lawful v h s I l n hd from next retires (ended l n)
-      (λ a k t q. let z : ◌≡◌ {A = ℕ} 0 1 = cc in omega arith) (λ a k x b q. let z : ◌≡◌ {A = ℕ} 0 1 = cc in omega arith)
+      (λ a k t q. cc) (λ a k x b q. cc)
       (λ y a k. refl) (λ a k q. let el : l ≡ a = cc in let en : n ≡ k = cc in (sym el, sym en)) (λ g w r. r)
       (end_items commit_edit) (length_after s.items (end_edits commit_edit l n 0 s.items)) (levels_after s.items (end_edits commit_edit l n 0 s.items))
       (end_other commit_edit)
@@ -305,7 +305,7 @@ module _ (P : Parts) (lawful : PartialOrder P.order) (v : State) (h : List Event
   unfolding next end_items
   inv_abort =
       inv_end P lawful v h s I l n hd from next retires idle
-      idle_mild.no_begin (λ a k x b q. let z : ◌≡◌ {A = ℕ} 0 1 = cc in omega arith)
+      idle_mild.no_begin (λ a k x b q. cc)
       (λ y a k. refl) (λ a k q. absurd (idle_mild.no_end a k q)) (λ g w r. r)
       (end_items abort_edit) (length_after s.items (end_edits abort_edit l n 0 s.items)) (levels_after s.items (end_edits abort_edit l n 0 s.items))
       (end_other abort_edit)

@@ -1,14 +1,14 @@
 -- What happened in a run, with the values that were read, and what makes it right. Assumes nothing.
-use Rattle.std.proofs.Common.{◌≡◌, ℕ, ◌<◌, ◌≤◌, true, cond, ◌&&◌, eqb, ◌⊎◌, List, [], ◌∷◌, ◌++◌, map, Some, None, Option, inl, inr}
+use Rattle.std.proofs.Common.{◌≡◌, ℕ, ◌<◌, ◌≤◌, true, cond, ◌&&◌, eqb, ◌⊎◌, List, [], ◌∷◌, ◌++◌, map, Some, None, Ok, Err, Option, inl, inr}
 use Rattle.std.proofs.lemmas.Option.{none-some, same_Some}
 use Rattle.std.proofs.lemmas.Bool.{and_parts, cond_both, eqb-true}
 use Rattle.orders.specs.Orders.{Order}
+use Rattle.rules.specs.Answers.{Answer}
 use Rattle.rules.specs.Members.{In}
 use Rattle.rules.specs.Runs.{Sent, accepted}
 use Rattle.rules.specs.Serial.{Fed, skipped, begun, got, wrote, commits, Transaction, is_named, Values}
 use Rattle.rules.specs.Watermarks.{strictly_dominates}
-use Rattle.rules.specs.declared.answer.Answer.{Answer}
-use Rattle.rules.specs.declared.answer.Answer.TheVariants.{Clock, Begun, Value, Done, Refused}
+use Rattle.rules.specs.declared.answer.Reply.TheVariants.{Clock, Begun, Value, Done}
 use Rattle.rules.specs.declared.call.Call.{Call}
 use Rattle.rules.specs.declared.call.Call.TheVariants.{Tick, Begin, Read, Write, Commit, Abort}
 
@@ -24,18 +24,18 @@ pub data Event : Type 0 where
   ended : ℕ → ℕ → Event
 
 abbrev pub event_begin : ℕ → Answer → Event
-event_begin l (Clock c) = idle
-event_begin l (Begun n t) = began l n t
-event_begin l (Value x) = idle
-event_begin l Done = idle
-event_begin l (Refused e) = idle
+event_begin l (Ok (Clock c)) = idle
+event_begin l (Ok (Begun n t)) = began l n t
+event_begin l (Ok (Value x)) = idle
+event_begin l (Ok Done) = idle
+event_begin l (Err e) = idle
 
 abbrev pub event_read : ℕ → ℕ → ℕ → Answer → Event
-event_read l n x (Clock c) = idle
-event_read l n x (Begun k t) = idle
-event_read l n x (Value a) = saw l n x a
-event_read l n x Done = idle
-event_read l n x (Refused e) = idle
+event_read l n x (Ok (Clock c)) = idle
+event_read l n x (Ok (Begun k t)) = idle
+event_read l n x (Ok (Value a)) = saw l n x a
+event_read l n x (Ok Done) = idle
+event_read l n x (Err e) = idle
 
 abbrev pub event : Call → Answer → Event
 event Tick r = idle

@@ -1,5 +1,5 @@
 -- Members of a list and their places, and members of what a test keeps of it. Assumes nothing.
-use Rattle.std.proofs.Common.{◌≡◌, ℕ, zero, suc, ◌<◌, ◌≤◌, Bool, true, ◌⊎◌, List, [], ◌∷◌, ◌++◌, length, take, drop, set, Some, filter, sym, refl, ap, ◌∙◌, subst, inl, inr, arith}
+use Rattle.std.proofs.Common.{◌≡◌, ℕ, zero, suc, ◌≤◌, Bool, true, ◌⊎◌, List, [], ◌∷◌, ◌++◌, length, take, drop, set, Some, filter, sym, refl, ap, ◌∙◌, subst, inl, inr, arith}
 use Rattle.std.specs.List.{AllByRecursion, slice_get}
 use Rattle.std.proofs.lemmas.Option.{none-some, same_Some}
 use Rattle.std.proofs.lemmas.Bool.{cond-true, cond_both}
@@ -46,11 +46,6 @@ pub take_to : {X : Type 0} (xs : List X) (i : ℕ) (x : X) → slice_get xs i �
 take_to [] i x h = absurd (none-some x h)
 take_to (y ∷ ys) zero x h = ap (λ z. z ∷ []) (same_Some y x h)
 take_to (y ∷ ys) (suc i) x h = ap (λ zs. y ∷ zs) (take_to ys i x h)
-
-pub nth_within : {X : Type 0} (xs : List X) (i : ℕ) (x : X) → slice_get xs i ≡ Some x → i < length xs
-nth_within [] i x h = absurd (none-some x h)
-nth_within (y ∷ ys) zero x h = omega arith
-nth_within (y ∷ ys) (suc i) x h = let r = nth_within ys i x h in omega arith
 
 -- members of a list around one place
 pub in_here : {X : Type 0} (x : X) (xs ys : List X) → In x (xs ++ x ∷ ys)

@@ -1,5 +1,5 @@
 -- What an accepted call says of the tests that it passed. Assumes nothing.
-use Rattle.std.proofs.Common.{◌≡◌, ℕ, ◌+◌, ◌<◌, ◌≤◌, Bool, true, false, cond, not, ◌&&◌, eqb, ltb, ◌⊎◌, List, length, Some, None, Ok, Err, Option, Result, sym, refl, ap, ◌∙◌, inl, inr, arith}
+use Rattle.std.proofs.Common.{◌≡◌, ℕ, ◌+◌, ◌<◌, ◌≤◌, Bool, true, false, cond, not, ◌&&◌, eqb, ltb, ◌⊎◌, List, length, Some, None, Ok, Err, Option, Result, sym, refl, ap, ◌∙◌, inl, inr}
 use Rattle.std.specs.List.{slice_get}
 use Rattle.std.proofs.lemmas.Bool.{ltb-true, ltb-false, eqb-true, eqb-false}
 use Rattle.shelves.specs.Items.{Item}
@@ -18,29 +18,22 @@ use Rattle.rules.specs.declared.decision.Writing.{Writing}
 use Rattle.rules.specs.declared.refusal.Refusal.{Refusal}
 use Rattle.rules.specs.declared.refusal.Refusal.TheVariants.{RowFull}
 
--- no refusal is an acceptance
-pub err_ok : {A : Type 0} (e : Refusal) (a : A) → ◌≡◌ {A = Result A Refusal} (Err e) (Ok a) → ⊥
-err_ok e a h = let z : ◌≡◌ {A = ℕ} 0 1 = cc in omega arith
-
-pub same_ok : {A : Type 0} (a b : A) → ◌≡◌ {A = Result A Refusal} (Ok a) (Ok b) → a ≡ b
-same_ok a b h = cc
-
 -- a test whose other way is a refusal
 pub passed : {A : Type 0} (b : Bool) (r : Result A Refusal) (e : Refusal) (a : A) → cond b r (Err e) ≡ Ok a → (b ≡ true) × (r ≡ Ok a)
 passed true r e a h = (refl, h)
-passed false r e a h = absurd (err_ok e a h)
+passed false r e a h = absurd cc
 
 pub not_refused : {A : Type 0} (b : Bool) (r : Result A Refusal) (e : Refusal) (a : A) → cond b (Err e) r ≡ Ok a → (b ≡ false) × (r ≡ Ok a)
-not_refused true r e a h = absurd (err_ok e a h)
+not_refused true r e a h = absurd cc
 not_refused false r e a h = (refl, h)
 
 pub then_ok : {A B : Type 0} (r : Result A Refusal) (f : A → Result B Refusal) (b : B) → and_then r f ≡ Ok b → (a : A) × (r ≡ Ok a) × (f a ≡ Ok b)
 then_ok (Ok a) f b h = (a, refl, h)
-then_ok (Err e) f b h = absurd (err_ok e b h)
+then_ok (Err e) f b h = absurd cc
 
 pub known_ok : {A : Type 0} (o : Option A) (e : Refusal) (a : A) → known o e ≡ Ok a → o ≡ Some a
-known_ok None e a h = absurd (err_ok e a h)
-known_ok (Some b) e a h = ap Some (same_ok b a h)
+known_ok None e a h = absurd cc
+known_ok (Some b) e a h = cc
 
 pub record AtLevel {A : Type 0} (P : Parts) (s : State) (l : ℕ) (r : Result A Refusal) (a : A) : Type 0 where
   pub sound : s.sound ≡ true
@@ -75,7 +68,7 @@ admission_ok P s l d a e =
     let r = not_refused (eqb (table_at s l).number 4294967295) _ _ a q.1 in
     let f = then_ok (known (first_free (table_at s l)) _) _ a r.1 in
     let k = known_ok (first_free (table_at s l)) _ f.0 f.1 in
-    let same = same_ok _ a f.2 in
+    let same : record { place = f.0; number = (table_at s l).number + 1; stamp = stamp_for P s l d } ≡ a = cc in
     record {
       level = p.level;
       place = k ∙ ap (λ (b : Admission). Some b.place) same;
@@ -107,17 +100,17 @@ pub record IsReading (P : Parts) (s : State) (l n x : ℕ) (r : Reading) : Type 
   pub way : OwnReading l n item r ⊎ LowerReading P s l held.stamp item r
 
 own_ok : (l n : ℕ) (it : Item) (o : Option Chosen) (r : Reading) → it.level ≡ l → last_that (up_to n) it.row ≡ o → own_read l n o ≡ Ok r → OwnReading l n it r
-own_ok l n it None r e q h = absurd (err_ok _ r h)
+own_ok l n it None r e q h = absurd cc
 own_ok l n it (Some c) r e q h =
     let p = not_refused (is_pending c.version && not (eqb c.version.number n)) _ _ r h in
-    record { level = e; chosen = c; last = q; owned = p.0; result = sym (same_ok _ r p.1) }
+    record { level = e; chosen = c; last = q; owned = p.0; result = cc }
 
 lower_ok : (P : Parts) (s : State) (l t : ℕ) (it : Item) (o : Option Chosen) (r : Reading) → (it.level ≡ l → ⊥) → t ≤ floor P s it.level
     → last_that (older_than t) it.row ≡ o → lower_read o ≡ Ok r → LowerReading P s l t it r
-lower_ok P s l t it None r e f q h = absurd (err_ok _ r h)
+lower_ok P s l t it None r e f q h = absurd cc
 lower_ok P s l t it (Some c) r e f q h =
     let p = not_refused (is_pending c.version) _ _ r h in
-    record { level = e; floor = f; chosen = c; last = q; owned = p.0; result = sym (same_ok _ r p.1) }
+    record { level = e; floor = f; chosen = c; last = q; owned = p.0; result = cc }
 
 read_way : (P : Parts) (s : State) (l n : ℕ) (h : Held) (it : Item) (b : Bool) (r : Reading) → eqb it.level l ≡ b
     → cond b (own_read l n (last_that (up_to n) it.row)) (read_below P s h.stamp it) ≡ Ok r
@@ -170,14 +163,14 @@ room_way : (row : List Version) (n t a : ℕ) (c : Chosen) (b : Bool) (w : Writi
     (cond (two_committed row) (Ok (record { drop = true; edit = Insert c.place (pending n t a) })) (Err RowFull)) ≡ Ok w
     → ((length row < 8) × (w ≡ record { drop = false; edit = Insert (c.place + 1) (pending n t a) }))
     ⊎ ((8 ≤ length row) × (two_committed row ≡ true) × (w ≡ record { drop = true; edit = Insert c.place (pending n t a) }))
-room_way row n t a c true w q e = inl (ltb-true (length row) 8 q, sym (same_ok _ w e))
+room_way row n t a c true w q e = inl (ltb-true (length row) 8 q, cc)
 room_way row n t a c false w q e =
     let p = passed (two_committed row) _ _ w e in
-    inr (ltb-false (length row) 8 q, p.0, sym (same_ok _ w p.1))
+    inr (ltb-false (length row) 8 q, p.0, cc)
 
 new_ok : (it : Item) (n t a : ℕ) (o : Option Chosen) (w : Writing) → last_that (numbered n) it.row ≡ None → last_that (before n) it.row ≡ o
     → write_behind it.row n t a o ≡ Ok w → NewWriting n t a it w
-new_ok it n t a None w none q e = absurd (err_ok _ w e)
+new_ok it n t a None w none q e = absurd cc
 new_ok it n t a (Some c) w none q e =
     let p = not_refused (ltb n c.version.mark) _ _ w e in
     record {
@@ -191,7 +184,7 @@ new_ok it n t a (Some c) w none q e =
 write_way : (it : Item) (n t a : ℕ) (o : Option Chosen) (w : Writing) → last_that (numbered n) it.row ≡ o → write_row it.row n t a o ≡ Ok w
     → OwnWriting n a it w ⊎ NewWriting n t a it w
 write_way it n t a None w q e = inr (new_ok it n t a (last_that (before n) it.row) w q refl e)
-write_way it n t a (Some c) w q e = inl (record { chosen = c; last = q; result = sym (same_ok _ w e) })
+write_way it n t a (Some c) w q e = inl (record { chosen = c; last = q; result = cc })
 
 pub writing_ok : (P : Parts) (s : State) (l n x a : ℕ) (w : Writing) → writing P s l n x a ≡ Ok w → IsWriting P s l n x a w
 writing_ok P s l n x a w e =
@@ -211,4 +204,4 @@ pub next_clock_ok : (s : State) (c : ℕ) → next_clock s ≡ Ok c → c ≡ s.
 next_clock_ok s c e =
     let p = passed s.sound _ _ c e in
     let q = passed (ltb s.clock 4294967295) _ _ c p.1 in
-    sym (same_ok (s.clock + 1) c q.1)
+    cc

@@ -14,6 +14,7 @@ use Rattle.tables.specs.Tables.{empty_table, filled, freed}
 use Rattle.tables.specs.declared.place.Active.{Active}
 use Rattle.tables.specs.declared.place.Held.{Held}
 use Rattle.tables.specs.declared.table.Table.{Table}
+use Rattle.rules.specs.Answers.{Answer}
 use Rattle.rules.specs.Choices.{last_that, numbered, up_to, older_than, is_pending}
 use Rattle.rules.specs.Isolation.{visible, seen_calls, seen_log, SameParts, SameItems, SameRows, HiddenCallsChangeNoVisibleAnswer}
 use Rattle.rules.specs.Runs.{answered_by, step, run, log}
@@ -21,8 +22,7 @@ use Rattle.rules.specs.Starts.{Start}
 use Rattle.rules.specs.States.{Parts, State, table_at, with_clock, with_items, ItemEdit, edits_of, items_through}
 use Rattle.rules.specs.Steps.{settled, and_then, known, sender, item_of, next_clock, stamp_for, admission, admitted, own_read, wait, lower_read, read_below, read_item, reading, read_edits, read_done, write_row, write_item, writing, write_edits, write_done, commit_edit, abort_edit, end_edit, end_edits, ended}
 use Rattle.rules.specs.Watermarks.{collected, strictly_dominates, at_or_below, below, least, floor, waited_for, entry}
-use Rattle.rules.specs.declared.answer.Answer.{Answer}
-use Rattle.rules.specs.declared.answer.Answer.TheVariants.{Clock, Begun, Value, Done}
+use Rattle.rules.specs.declared.answer.Reply.TheVariants.{Clock, Begun, Value, Done}
 use Rattle.rules.specs.declared.call.Call.{Call}
 use Rattle.rules.specs.declared.call.Call.TheVariants.{Tick, Begin, Read, Write, Commit, Abort}
 use Rattle.rules.specs.declared.decision.Chosen.{Chosen}
@@ -30,7 +30,7 @@ use Rattle.rules.specs.declared.decision.Reading.{Reading}
 use Rattle.rules.specs.declared.decision.Writing.{Writing}
 use Rattle.rules.specs.declared.refusal.Refusal.{Refusal}
 use Rattle.rules.specs.declared.refusal.Refusal.TheVariants.{UnknownItem, NotDominated, OtherLevel, LowerPending}
-use Rattle.rules.proofs.Inverted.{same_ok, passed, not_refused, then_ok}
+use Rattle.rules.proofs.Inverted.{passed, not_refused, then_ok}
 use Rattle.rules.proofs.Rowed.{level_after}
 
 -- tables: those of the levels that pass stay, and the others become empty
@@ -221,7 +221,8 @@ lower_edits : (c : Option Chosen) (r : Reading) → lower_read c ≡ Ok r → re
 lower_edits None r h = cc
 lower_edits (Some c) r h =
     let none : Reading = record { value = c.version.value; edit = None } in
-    let is : none ≡ r = same_ok none r (not_refused (is_pending c.version) (Ok none) LowerPending r h).1 in
+    let got = not_refused (is_pending c.version) (Ok none) LowerPending r h in
+    let is : none ≡ r = cc in
     sym (ap read_edits is)
 
 own_edits : (P : Parts) (s : State) (l n : ℕ) (h : Held) (it : Item) (r : Reading) → read_item P s l n h it ≡ Ok r

@@ -18,20 +18,20 @@ pub record Mild (e : Event) : Type 0 where
 
 pub idle_mild : Mild idle
 idle_mild = record {
-  no_begin = λ l n t q. let z : ◌≡◌ {A = ℕ} 0 1 = cc in omega arith;
-  no_end = λ l n q. let z : ◌≡◌ {A = ℕ} 0 1 = cc in omega arith;
+  no_begin = λ l n t q. cc;
+  no_end = λ l n q. cc;
 }
 
 pub saw_mild : (a k x b : ℕ) → Mild (saw a k x b)
 saw_mild a k x b = record {
-  no_begin = λ l n t q. let z : ◌≡◌ {A = ℕ} 0 1 = cc in omega arith;
-  no_end = λ l n q. let z : ◌≡◌ {A = ℕ} 0 1 = cc in omega arith;
+  no_begin = λ l n t q. cc;
+  no_end = λ l n q. cc;
 }
 
 pub stored_mild : (a k x b : ℕ) → Mild (stored a k x b)
 stored_mild a k x b = record {
-  no_begin = λ l n t q. let z : ◌≡◌ {A = ℕ} 0 1 = cc in omega arith;
-  no_end = λ l n q. let z : ◌≡◌ {A = ℕ} 0 1 = cc in omega arith;
+  no_begin = λ l n t q. cc;
+  no_end = λ l n q. cc;
 }
 
 pub began_back : (e : Event) (h : List Event) → Mild e → (l n t : ℕ) → Began (e ∷ h) l n t → Began h l n t

@@ -57,18 +57,15 @@ lex_trans a b c f (inl l) s = inl (omega (arith, lex_le b c s))
 lex_trans a b c f (inr r) (inl l) = inl (omega (arith, r.0))
 lex_trans a b c f (inr r) (inr s) = inr (r.0 ∙ s.0, f r.1 s.1)
 
-lex_cases : {R S T : Type 0} (a b : ℕ) → R ⊎ (S ⊎ T) → Lex a b R ⊎ (Lex b a S ⊎ ((a ≡ b) × T))
+lex_cases : {R S T : Type 0} (a b : ℕ) → T ⊎ (R ⊎ S) → ((a ≡ b) × T) ⊎ (Lex a b R ⊎ Lex b a S)
 lex_cases a b d =
     elim (cases_order a b) [
       | inl e ↦ elim d [
-        | inl r ↦ inl (inr (e, r))
-        | inr g ↦ elim g [ inl s ↦ inr (inl (inr (sym e, s))) | inr t ↦ inr (inr (e, t)) ]
+        | inl t ↦ inl (e, t)
+        | inr g ↦ elim g [ inl r ↦ inr (inl (inr (e, r))) | inr s ↦ inr (inr (inr (sym e, s))) ]
       ]
-      | inr g ↦ elim g [ inl l ↦ inl (inl l) | inr l ↦ inr (inl (inl l)) ]
+      | inr g ↦ elim g [ inl l ↦ inr (inl (inl l)) | inr l ↦ inr (inr (inl l)) ]
     ]
-
-number_cases : (a b : ℕ) → (a < b) ⊎ ((b < a) ⊎ (a ≡ b))
-number_cases a b = elim (cases_order a b) [ inl e ↦ inr (inr e) | inr g ↦ elim g [ inl l ↦ inl l | inr l ↦ inr (inl l) ] ]
 
 module _ (o : Order) where
   -- how many levels l dominates
@@ -96,16 +93,13 @@ module _ (o : Order) where
       (λ s r. lex_trans u.level v.level w.level (λ k l. omega arith) r s)
       q p)
 
-  sooner_cases : (u w : Transaction) → Sooner u w ⊎ (Sooner w u ⊎ (u ≡ w))
+  sooner_cases : (u w : Transaction) → (u ≡ w) ⊎ (Sooner u w ⊎ Sooner w u)
   sooner_cases u w =
       elim (lex_cases u.stamp w.stamp
       (lex_cases (rank w.level) (rank u.level)
-      (lex_cases u.level w.level (number_cases u.number w.number)))) [
-        | inl s ↦ inl s
-        | inr d ↦ elim d [
-          | inl s ↦ inr (inl s)
-          | inr e ↦ inr (inr (λ i. record { level = e.1.1.0 i; number = e.1.1.1 i; stamp = e.0 i }))
-        ]
+      (lex_cases u.level w.level (cases_order u.number w.number)))) [
+        | inl e ↦ inl (λ i. record { level = e.1.1.0 i; number = e.1.1.1 i; stamp = e.0 i })
+        | inr d ↦ inr d
       ]
 
   -- each stands before all behind it
@@ -147,24 +141,24 @@ module _ (o : Order) where
   place u [] s = (u ∷ [], record { all_there = λ x i. i; no_other = λ x i. i; sorted = (tt, tt) })
   place u (w ∷ ws) s =
       elim (sooner_cases u w) [
-        | inl l ↦ (
-          u ∷ w ∷ ws,
+        | inl e ↦ (
+          w ∷ ws,
           record {
-            all_there = λ x i. i;
-            no_other = λ x i. i;
-            sorted = ((l, All-weaker (Sooner w) (Sooner u) (λ x. sooner_trans u w x l) ws s.0), s);
+            all_there = λ x i. elim i [ inl q ↦ inl (sym e ∙ q) | inr j ↦ j ];
+            no_other = λ x i. inr i;
+            sorted = s;
           },
         )
         | inr d ↦ elim d [
-          | inl l ↦ behind u w ws l s (place u ws s.1)
-          | inr e ↦ (
-            w ∷ ws,
+          | inl l ↦ (
+            u ∷ w ∷ ws,
             record {
-              all_there = λ x i. elim i [ inl q ↦ inl (sym e ∙ q) | inr j ↦ j ];
-              no_other = λ x i. inr i;
-              sorted = s;
+              all_there = λ x i. i;
+              no_other = λ x i. i;
+              sorted = ((l, All-weaker (Sooner w) (Sooner u) (λ x. sooner_trans u w x l) ws s.0), s);
             },
           )
+          | inr l ↦ behind u w ws l s (place u ws s.1)
         ]
       ]
 

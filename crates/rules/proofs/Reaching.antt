@@ -10,6 +10,7 @@ use Rattle.shelves.specs.declared.version.Version.{Version}
 use Rattle.tables.specs.Tables.{empty_table, filled, freed}
 use Rattle.tables.specs.declared.place.Held.{Held}
 use Rattle.tables.specs.declared.table.Table.{Table}
+use Rattle.rules.specs.Answers.{Answer}
 use Rattle.rules.specs.Members.{In}
 use Rattle.rules.specs.Reached.{QuestionHasRoom, StampsNeverFall, StampsWithinClock, NumbersRise, FloorNeverFalls, RowsKeepRule, WrittenVersionStands, PendingHasOwner, ActiveWriteStands}
 use Rattle.rules.specs.Runs.{Sent, accepted, answer_by, step, run, log}
@@ -18,8 +19,7 @@ use Rattle.rules.specs.Starts.{Lawful, Start}
 use Rattle.rules.specs.States.{Parts, State, table_at, with_clock, with_table, with_items, items_through}
 use Rattle.rules.specs.Steps.{settled, sender, next_clock, admission, admitted, reading, read_done, writing, write_done, commit_edit, abort_edit, end_edits, ended as end_done}
 use Rattle.rules.specs.Watermarks.{floor}
-use Rattle.rules.specs.declared.answer.Answer.{Answer}
-use Rattle.rules.specs.declared.answer.Answer.TheVariants.{Clock, Begun, Value, Done, Refused}
+use Rattle.rules.specs.declared.answer.Reply.TheVariants.{Clock, Begun, Value, Done}
 use Rattle.rules.specs.declared.call.Call.{Call}
 use Rattle.rules.specs.declared.call.Call.TheVariants.{Tick, Begin, Read, Write, Commit, Abort}
 use Rattle.rules.specs.declared.decision.Admission.{Admission}
@@ -52,23 +52,23 @@ question_has_room P v cs st l = lowest_room P (history P v cs) v (run P v cs).1 
 -- what is told of a call that begins or writes, and its event
 no_begun : (b : Bool) (f : Fed ℕ) (l n t : ℕ) → (f ≡ begun l n t → ⊥) → cond b f skipped ≡ begun l n t → ⊥
 no_begun true f l n t ne e = ne e
-no_begun false f l n t ne e = let z : ◌≡◌ {A = ℕ} 0 1 = cc in omega arith
+no_begun false f l n t ne e = cc
 
-fed_begun : (a : ℕ) (r : Answer) (l n t : ℕ) → fed_begin a r ≡ begun l n t → (a ≡ l) × (r ≡ Begun n t)
-fed_begun a (Clock c) l n t e = let z : ◌≡◌ {A = ℕ} 0 1 = cc in absurd (omega arith)
-fed_begun a (Begun k u) l n t e = let el : a ≡ l = cc in let ek : k ≡ n = cc in let eu : u ≡ t = cc in (el, cc)
-fed_begun a (Value x) l n t e = let z : ◌≡◌ {A = ℕ} 0 1 = cc in absurd (omega arith)
-fed_begun a Done l n t e = let z : ◌≡◌ {A = ℕ} 0 1 = cc in absurd (omega arith)
-fed_begun a (Refused q) l n t e = let z : ◌≡◌ {A = ℕ} 0 1 = cc in absurd (omega arith)
+fed_begun : (a : ℕ) (r : Answer) (l n t : ℕ) → fed_begin a r ≡ begun l n t → (a ≡ l) × (r ≡ Ok (Begun n t))
+fed_begun a (Ok (Clock c)) l n t e = absurd cc
+fed_begun a (Ok (Begun k u)) l n t e = (cc, cc)
+fed_begun a (Ok (Value x)) l n t e = absurd cc
+fed_begun a (Ok Done) l n t e = absurd cc
+fed_begun a (Err q) l n t e = absurd cc
 
 -- only a begin begins
-begin_only : (c : Call) (r : Answer) (l n t : ℕ) → fed_call c r ≡ begun l n t → (d : ℕ) × (c ≡ Begin l d) × (r ≡ Begun n t)
-begin_only Tick r l n t e = let z : ◌≡◌ {A = ℕ} 0 1 = cc in absurd (omega arith)
+begin_only : (c : Call) (r : Answer) (l n t : ℕ) → fed_call c r ≡ begun l n t → (d : ℕ) × (c ≡ Begin l d) × (r ≡ Ok (Begun n t))
+begin_only Tick r l n t e = absurd cc
 begin_only (Begin a d) r l n t e = let f = fed_begun a r l n t e in (d, ap (λ b. Begin b d) f.0, f.1)
-begin_only (Read a k x) r l n t e = absurd (no_begun (accepted r) (got a k x) l n t (λ q. let z : ◌≡◌ {A = ℕ} 0 1 = cc in omega arith) e)
-begin_only (Write a k x b) r l n t e = absurd (no_begun (accepted r) (wrote a k x b) l n t (λ q. let z : ◌≡◌ {A = ℕ} 0 1 = cc in omega arith) e)
-begin_only (Commit a k) r l n t e = absurd (no_begun (accepted r) (commits a k) l n t (λ q. let z : ◌≡◌ {A = ℕ} 0 1 = cc in omega arith) e)
-begin_only (Abort a k) r l n t e = let z : ◌≡◌ {A = ℕ} 0 1 = cc in absurd (omega arith)
+begin_only (Read a k x) r l n t e = absurd (no_begun (accepted r) (got a k x) l n t (λ q. cc) e)
+begin_only (Write a k x b) r l n t e = absurd (no_begun (accepted r) (wrote a k x b) l n t (λ q. cc) e)
+begin_only (Commit a k) r l n t e = absurd (no_begun (accepted r) (commits a k) l n t (λ q. cc) e)
+begin_only (Abort a k) r l n t e = absurd cc
 
 fed_began : (c : Call) (r : Answer) (l n t : ℕ) → fed_call c r ≡ begun l n t → event c r ≡ began l n t
 fed_began c r l n t e =
@@ -77,26 +77,26 @@ fed_began c r l n t e =
 
 no_wrote : (b : Bool) (f : Fed ℕ) (l n x a : ℕ) → (f ≡ wrote l n x a → ⊥) → cond b f skipped ≡ wrote l n x a → ⊥
 no_wrote true f l n x a ne e = ne e
-no_wrote false f l n x a ne e = let z : ◌≡◌ {A = ℕ} 0 1 = cc in omega arith
+no_wrote false f l n x a ne e = cc
 
 begin_writes_not : (b : ℕ) (r : Answer) (l n x a : ℕ) → fed_begin b r ≡ wrote l n x a → ⊥
-begin_writes_not b (Clock c) l n x a e = let z : ◌≡◌ {A = ℕ} 0 1 = cc in omega arith
-begin_writes_not b (Begun k u) l n x a e = let z : ◌≡◌ {A = ℕ} 0 1 = cc in omega arith
-begin_writes_not b (Value y) l n x a e = let z : ◌≡◌ {A = ℕ} 0 1 = cc in omega arith
-begin_writes_not b Done l n x a e = let z : ◌≡◌ {A = ℕ} 0 1 = cc in omega arith
-begin_writes_not b (Refused q) l n x a e = let z : ◌≡◌ {A = ℕ} 0 1 = cc in omega arith
+begin_writes_not b (Ok (Clock c)) l n x a e = cc
+begin_writes_not b (Ok (Begun k u)) l n x a e = cc
+begin_writes_not b (Ok (Value y)) l n x a e = cc
+begin_writes_not b (Ok Done) l n x a e = cc
+begin_writes_not b (Err q) l n x a e = cc
 
 write_stores : (t : Bool) (k m y b l n x a : ℕ) → cond t (wrote k m y b) skipped ≡ wrote l n x a → cond t (stored k m y b) idle ≡ stored l n x a
-write_stores true k m y b l n x a e = let ek : k ≡ l = cc in let em : m ≡ n = cc in let ey : y ≡ x = cc in let eb : b ≡ a = cc in cc
-write_stores false k m y b l n x a e = let z : ◌≡◌ {A = ℕ} 0 1 = cc in absurd (omega arith)
+write_stores true k m y b l n x a e = cc
+write_stores false k m y b l n x a e = absurd cc
 
 fed_stored : (c : Call) (r : Answer) (l n x a : ℕ) → fed_call c r ≡ wrote l n x a → event c r ≡ stored l n x a
-fed_stored Tick r l n x a e = let z : ◌≡◌ {A = ℕ} 0 1 = cc in absurd (omega arith)
+fed_stored Tick r l n x a e = absurd cc
 fed_stored (Begin b d) r l n x a e = absurd (begin_writes_not b r l n x a e)
-fed_stored (Read b k y) r l n x a e = absurd (no_wrote (accepted r) (got b k y) l n x a (λ q. let z : ◌≡◌ {A = ℕ} 0 1 = cc in omega arith) e)
+fed_stored (Read b k y) r l n x a e = absurd (no_wrote (accepted r) (got b k y) l n x a (λ q. cc) e)
 fed_stored (Write k m y b) r l n x a e = write_stores (accepted r) k m y b l n x a e
-fed_stored (Commit b k) r l n x a e = absurd (no_wrote (accepted r) (commits b k) l n x a (λ q. let z : ◌≡◌ {A = ℕ} 0 1 = cc in omega arith) e)
-fed_stored (Abort b k) r l n x a e = let z : ◌≡◌ {A = ℕ} 0 1 = cc in absurd (omega arith)
+fed_stored (Commit b k) r l n x a e = absurd (no_wrote (accepted r) (commits b k) l n x a (λ q. cc) e)
+fed_stored (Abort b k) r l n x a e = absurd cc
 
 -- a transaction that began: the first that is told, or one of the others
 told_first : (f : Fed ℕ) (fs : List (Fed ℕ)) (u : Transaction) → In u (transactions (f ∷ fs)) → (f ≡ begun u.level u.number u.stamp) ⊎ In u (transactions fs)
@@ -210,8 +210,8 @@ module _ (P : Parts) (lawful : Lawful P) (v : State) (h : List Event) (s : State
 
   -- a number that is given is above all that were given
   number_above : (l d n t : ℕ) (r : Result Admission Refusal) → admission P s l d ≡ r
-      → answer_by (λ p. Begun p.0 p.1) (settled s (admitted s l) r).0 ≡ Begun n t → (table_at s l).number < n
-  number_above l d n t (Err e) q b = let z : ◌≡◌ {A = ℕ} 0 1 = cc in absurd (omega arith)
+      → answer_by (λ p. Begun p.0 p.1) (settled s (admitted s l) r).0 ≡ Ok (Begun n t) → (table_at s l).number < n
+  number_above l d n t (Err e) q b = absurd cc
   number_above l d n t (Ok a) q b = let en : a.number ≡ n = cc in omega (arith, (admission_ok P s l d a q).number)
 
   begun_above : (c : Call) (l n t : ℕ) → fed_call c (step P s c).0 ≡ begun l n t → ((table_at s l).number < n) × (n ≤ (table_at (step P s c).1 l).number)
@@ -301,13 +301,13 @@ pending_has_owner P v cs st x w i p =
 -- a transaction that stored something has a last stored value
 stored_known : (h : List Event) (l n x a : ℕ) → In (stored l n x a) h → (b : ℕ) × (last_stored h l n x ≡ Some b)
 stored_known [] l n x a i = absurd i
-stored_known (idle ∷ h) l n x a (inl e) = let z : ◌≡◌ {A = ℕ} 0 1 = cc in absurd (omega arith)
+stored_known (idle ∷ h) l n x a (inl e) = absurd cc
 stored_known (idle ∷ h) l n x a (inr i) = stored_known h l n x a i
-stored_known (began k m t ∷ h) l n x a (inl e) = let z : ◌≡◌ {A = ℕ} 0 1 = cc in absurd (omega arith)
+stored_known (began k m t ∷ h) l n x a (inl e) = absurd cc
 stored_known (began k m t ∷ h) l n x a (inr i) = stored_known h l n x a i
-stored_known (saw k m y b ∷ h) l n x a (inl e) = let z : ◌≡◌ {A = ℕ} 0 1 = cc in absurd (omega arith)
+stored_known (saw k m y b ∷ h) l n x a (inl e) = absurd cc
 stored_known (saw k m y b ∷ h) l n x a (inr i) = stored_known h l n x a i
-stored_known (ended k m ∷ h) l n x a (inl e) = let z : ◌≡◌ {A = ℕ} 0 1 = cc in absurd (omega arith)
+stored_known (ended k m ∷ h) l n x a (inl e) = absurd cc
 stored_known (ended k m ∷ h) l n x a (inr i) = stored_known h l n x a i
 stored_known (stored k m y b ∷ h) l n x a (inl e) =
     (a, ap (λ ev. last_stored (ev ∷ h) l n x) e ∙ stored_here h l n x a)
@@ -326,9 +326,9 @@ active_write_stands P v cs st l n x a t i active =
     (ap (λ k. last_stored h k n x) own ∙ f.1) (subst (λ k. ActiveIn (run P v cs).1.tables k n t) (sym own) active)
 
 written : (P : Parts) → Lawful P → (v : State) (h : List Event) (s : State) → Inv P v h s → (l n x a : ℕ) (r : Result Writing Refusal) → writing P s l n x a ≡ r
-    → answer_by (λ _. Done) (settled s (write_done s x) r).0 ≡ Done
+    → answer_by (λ _. Done) (settled s (write_done s x) r).0 ≡ Ok Done
     → (w : Version) × In w (row_of (settled s (write_done s x) r).1.items x) × (w.number ≡ n) × (w.state ≡ Pending) × (w.value ≡ a)
-written P lawful v h s I l n x a (Err e) q d = let z : ◌≡◌ {A = ℕ} 0 1 = cc in absurd (omega arith)
+written P lawful v h s I l n x a (Err e) q d = absurd cc
 written P lawful v h s I l n x a (Ok wr) q d =
     let f = writing_ok P s l n x a wr q in
     let J : Inv P v (stored l n x a ∷ h) (write_done s x wr).1 = write_kept P lawful v h s I l n x a (Ok wr) q in

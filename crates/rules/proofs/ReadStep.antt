@@ -1,7 +1,7 @@
 -- Calls that change nothing, ticks and reads keep the invariant. Assumes nothing.
 use Rattle.std.proofs.Common.{◌≡◌, ℕ, ◌<◌, ◌≤◌, true, false, not, eqb, ◌⊎◌, List, [], ◌∷◌, length, Some, None, Option, sym, refl, ap, ◌∙◌, subst, ap₂, inl, inr, arith}
 use Rattle.std.specs.List.{slice_get}
-use Rattle.std.proofs.lemmas.Option.{none-some}
+use Rattle.std.proofs.lemmas.Option.{none-some, slice_get_within}
 use Rattle.std.proofs.lemmas.Bool.{cases_eq, ne_eqb, and_from, not_from_false, both_ways, leb-true, le-leb, ltb-true, lt-ltb, and_cases, not-false, eqb-true}
 use Rattle.orders.specs.Orders.{PartialOrder}
 use Rattle.shelves.specs.Items.{Item, level_in, row_in, level_of, row_of, items_after}
@@ -21,7 +21,7 @@ use Rattle.rules.specs.declared.decision.Chosen.{Chosen}
 use Rattle.rules.specs.declared.decision.Reading.{Reading}
 use Rattle.rules.proofs.Advance.{reads_kept}
 use Rattle.rules.proofs.History.{Event, idle, saw, last_stored, Ended, stored_in, Precedes, Writer}
-use Rattle.rules.proofs.Inside.{nth_within, in_nth}
+use Rattle.rules.proofs.Inside.{in_nth}
 use Rattle.rules.proofs.Invariant.{table_of, ActiveIn, Frame, Owned, Original, RowKept, Live, OutsideKept, Inv}
 use Rattle.rules.proofs.Inverted.{IsSender, OwnReading, LowerReading}
 use Rattle.rules.proofs.Marks.{floor_below}
@@ -35,7 +35,7 @@ committed_standing Committed h = refl
 committed_standing Pending h = absurd (both_ways true h refl)
 
 pub pending_committed : {st : Standing} → st ≡ Pending → st ≡ Committed → ⊥
-pending_committed p c = let z : ◌≡◌ {A = ℕ} 0 1 = cc in omega arith
+pending_committed p c = cc
 
 -- a version of an item that is found
 pub record AnItem (v s : State) (x : ℕ) (it : Item) : Type 0 where
@@ -46,7 +46,7 @@ pub record AnItem (v s : State) (x : ℕ) (it : Item) : Type 0 where
 
 pub an_item : (v s : State) (x : ℕ) (it : Item) → Frame v s → slice_get s.items x ≡ Some it → AnItem v s x it
 an_item v s x it f e =
-    let lt = nth_within s.items x it e in
+    let lt = slice_get_within s.items x it e in
     record { known = omega (arith, f.count); within = lt; level = sym (f.levels x) ∙ ap level_in e; row = ap row_in e }
 
 pub sender_active : (P : Parts) (s : State) (l n : ℕ) (hd : Held) → IsSender P s l n hd → ActiveIn s.tables l n hd.stamp
@@ -102,7 +102,7 @@ module _ (P : Parts) (lawful : PartialOrder P.order) (v : State) (h : List Event
       stamps = λ l. omega (arith, I.frame.stamps l);
     };
     times = times_mild P h s.tables idle idle_mild I.times;
-    stores = stores_mild v h idle (λ l n x b q. let z : ◌≡◌ {A = ℕ} 0 1 = cc in omega arith) I.stores;
+    stores = stores_mild v h idle (λ l n x b q. cc) I.stores;
     rows = λ x lt. row_mild v h s.tables (level_of v.items x) x (row_of s.items x) idle idle_mild (λ a n. refl) (I.rows x lt);
     reads = reads_kept P lawful v h s I.times (idle ∷ h) (moved s c s.items) I.rows
         (λ x lt. advance_mild P h s (level_of v.items x) x idle idle_mild (λ a n. refl) c s.items le (same_numbers (row_of s.items x))) h I.reads;
@@ -199,7 +199,7 @@ module _ (P : Parts) (lawful : PartialOrder P.order) (v : State) (h : List Event
           record {
             frame = I.frame;
             times = times_mild P h s.tables e m I.times;
-            stores = stores_mild v h e (λ _ _ _ _ q. let z : ◌≡◌ {A = ℕ} 0 1 = cc in omega arith) I.stores;
+            stores = stores_mild v h e (λ _ _ _ _ q. cc) I.stores;
             rows = λ y lt. row_mild v h s.tables (level_of v.items y) y (row_of s.items y) e m (λ _ _. refl) (I.rows y lt);
             reads = (
               record {
@@ -373,7 +373,7 @@ module _ (P : Parts) (lawful : PartialOrder P.order) (v : State) (h : List Event
           record {
             frame = frame_edited v s (edits_of x (Put q.chosen.place (marked n q.chosen.version) ∷ [])) I.frame;
             times = times_mild P h s.tables ev m I.times;
-            stores = stores_mild v h ev (λ _ _ _ _ z. let y : ◌≡◌ {A = ℕ} 0 1 = cc in omega arith) I.stores;
+            stores = stores_mild v h ev (λ _ _ _ _ z. cc) I.stores;
             rows = own_row;
             reads = (
               record {

@@ -1,7 +1,7 @@
 -- Choices and edits of a row that keeps the rule, by its members. Assumes nothing.
 use Rattle.std.proofs.Common.{◌≡◌, ℕ, zero, suc, ◌+◌, ◌<◌, ◌≤◌, Bool, true, false, cond, eqb, ◌⊎◌, List, [], ◌∷◌, ◌++◌, length, take, drop, set, Some, None, Option, sym, refl, ap, ◌∙◌, subst, subst₂, inl, inr, arith}
 use Rattle.std.specs.List.{slice_get}
-use Rattle.std.proofs.lemmas.Option.{none-some, same_Some}
+use Rattle.std.proofs.lemmas.Option.{none-some, same_Some, slice_get_within, slice_get_cases}
 use Rattle.std.proofs.lemmas.List.{length-append, length-set, set_split, take-append-drop}
 use Rattle.std.proofs.lemmas.Bool.{and_parts, and_from, cases_Bool, cases_eq, cond-true, cond-false, cond_both, eq-eqb, ne_eqb, lt-ltb, le-leb, ltb-true, ltb-false, both_ways, false≢true}
 use Rattle.shelves.specs.Edits.{fits, edited, accepts, row_after}
@@ -16,7 +16,7 @@ use Rattle.rules.specs.Members.{In}
 use Rattle.rules.specs.States.{ItemEdit, items_through}
 use Rattle.rules.specs.Steps.{two_committed, end_edit, end_edits}
 use Rattle.rules.specs.declared.decision.Chosen.{Chosen}
-use Rattle.rules.proofs.Inside.{in_left, in_either, nth_of_drop, split_at, take_to, nth_within, in_here, in_around, in_middle, in_some, in_nth, nth_set_same, nth_set_other}
+use Rattle.rules.proofs.Inside.{in_left, in_either, nth_of_drop, split_at, take_to, in_here, in_around, in_middle, in_some, in_nth, nth_set_same, nth_set_other}
 use Rattle.rules.proofs.Ordered.{Precedes, Ordered, ordered_rest, ordered_across, ordered_pair, ordered_without, ordered_with, other_number, state_committed, Rule, rule_parts, rule_whole}
 
 -- c is the last version of the row that passes
@@ -191,7 +191,7 @@ put_row row i v w h e n s st =
     let xs = take i row in
     let ys = drop (suc i) row in
     let split = split_at row i v e in
-    let within = nth_within row i v e in
+    let within = slice_get_within row i v e in
     let r = put_split xs ys v w (subst (λ z. Rule z) split (rule_parts row h)) n s st in
     subst₂ (λ a b. Replaced a b v w) (sym split)
     (sym (accepted (Put i w) row (xs ++ w ∷ ys) (lt-ltb i (length row) within) (set_split row i w within) r.rule)) r
@@ -221,7 +221,7 @@ remove_at : (row : List Version) (i : ℕ) (v : Version) → keeps_rule row ≡ 
 remove_at row i v h e c =
     let split = split_at row i v e in
     let r = remove_split (take i row) (drop (suc i) row) v (subst (λ z. Rule z) split (rule_parts row h)) c in (
-      accepted (Remove i) row (take i row ++ drop (suc i) row) (lt-ltb i (length row) (nth_within row i v e)) refl r.rule,
+      accepted (Remove i) row (take i row ++ drop (suc i) row) (lt-ltb i (length row) (slice_get_within row i v e)) refl r.rule,
       subst (λ a. Lacks a (take i row ++ drop (suc i) row) v) (sym split) r,
     )
 
@@ -321,7 +321,7 @@ insert_row row c w h l last fresh low high =
     let sides = predecessor_sides row c w h last fresh low high in
     let next : suc c.place ≡ c.place + 1 = omega arith in
     subst (λ p. Gains row (row_after (Insert p w) row) w) next
-    (insert_at row (suc c.place) w h l (nth_within row c.place c.version last.there) sides.0 sides.1)
+    (insert_at row (suc c.place) w h l (slice_get_within row c.place c.version last.there) sides.0 sides.1)
 
 -- in a full row the oldest version goes first: next has w, and all others but the oldest, o
 pub record Turns (row next : List Version) (w : Version) : Type 0 where
@@ -349,7 +349,7 @@ drop_insert_row (o ∷ s ∷ rest) c w h full two last fresh low high =
     let next : s.state ≡ Committed = state_committed s.state both.1 in
     let gone = remove_at (o ∷ s ∷ rest) 0 o h refl (s, inl refl, next) in
     let sides = predecessor_sides (o ∷ s ∷ rest) c w h last fresh low high in
-    let within = nth_within (o ∷ s ∷ rest) c.place c.version last.there in
+    let within = slice_get_within (o ∷ s ∷ rest) c.place c.version last.there in
     let g = insert_at (s ∷ rest) c.place w gone.1.rule (omega (arith, r.few)) (omega (arith, within)) (λ u i. sides.0 u (inr i)) sides.1 in
     record {
       oldest = o;
@@ -391,9 +391,7 @@ length_after its [] = refl
 length_after its (e ∷ es) = length_after (items_after its e.item e.edit) es ∙ length_edited its e.item e.edit
 
 missing : (its : List Item) (x : ℕ) → x < length its → slice_get its x ≡ None → ⊥
-missing [] x h q = omega arith
-missing (it ∷ its) zero h q = none-some it (sym q)
-missing (it ∷ its) (suc x) h q = missing its x (omega arith) q
+missing its x h q = elim (slice_get_cases its x).1 [ inl f ↦ none-some f.0 (sym q ∙ f.2) | inr p ↦ omega (arith, h, p.0) ]
 
 pub row_edited : (its : List Item) (x : ℕ) (e : Edit) → x < length its → row_of (items_after its x e) x ≡ row_after e (row_of its x)
 row_edited its x e h = go (slice_get its x) refl
@@ -414,7 +412,7 @@ abbrev pub end_row : (Chosen → Edit) → List Version → Option Chosen → Li
 end_row f row None = row
 end_row f row (Some c) = row_after (f c) row
 
-through_join : (its : List Item) (es fs : List ItemEdit) → items_through its (es ++ fs) ≡ items_through (items_through its es) fs
+pub through_join : (its : List Item) (es fs : List ItemEdit) → items_through its (es ++ fs) ≡ items_through (items_through its es) fs
 through_join its [] fs = refl
 through_join its (e ∷ es) fs = through_join (items_after its e.item e.edit) es fs
 

@@ -1,7 +1,7 @@
 -- Every call keeps the invariant, a start has it, and so has every reached state. Assumes nothing.
 use Rattle.std.proofs.Common.{◌≡◌, ℕ, zero, suc, ◌+◌, ◌<◌, Bool, true, false, cond, not, ◌&&◌, eqb, ltb, ◌⊎◌, List, [], ◌∷◌, length, get_or, replicate, is_some, Some, None, Ok, Err, Result, sym, refl, ap, ◌∙◌, subst, inl, inr, arith}
 use Rattle.std.specs.List.{slice_get}
-use Rattle.std.proofs.lemmas.Option.{none-some}
+use Rattle.std.proofs.lemmas.Option.{none-some, slice_get_cases}
 use Rattle.std.proofs.lemmas.Bool.{and_parts, eqb-true, false≢true}
 use Rattle.orders.specs.Orders.{Order}
 use Rattle.shelves.specs.Items.{Item, level_of, row_of, row_in}
@@ -18,7 +18,7 @@ use Rattle.rules.specs.Serial.{newest_value, value_of}
 use Rattle.rules.specs.Starts.{is_first, fits_order, unfit_from, Lawful, Start}
 use Rattle.rules.specs.States.{Parts, State, with_clock, with_items, items_through, edits_of}
 use Rattle.rules.specs.Steps.{settled, sender, next_clock, admission, admitted, reading, read_edits, read_done, writing, write_edits, write_done, commit_edit, abort_edit, ended as end_done}
-use Rattle.rules.specs.declared.answer.Answer.TheVariants.{Begun, Value, Done}
+use Rattle.rules.specs.declared.answer.Reply.TheVariants.{Begun, Value, Done}
 use Rattle.rules.specs.declared.call.Call.{Call}
 use Rattle.rules.specs.declared.call.Call.TheVariants.{Tick, Begin, Read, Write, Commit, Abort}
 use Rattle.rules.specs.declared.decision.Admission.{Admission}
@@ -170,13 +170,8 @@ inv_start P v st =
       reads = tt;
     }
   where
-    find : (its : List Item) (x : ℕ) → x < length its → (it : Item) × (slice_get its x ≡ Some it)
-    find [] x lt = absurd (omega arith)
-    find (j ∷ its) zero lt = (j, refl)
-    find (j ∷ its) (suc x) lt = find its x (omega arith)
-
     nth_some : (x : ℕ) → x < length v.items → (it : Item) × (slice_get v.items x ≡ Some it)
-    nth_some x lt = find v.items x lt
+    nth_some x lt = elim (slice_get_cases v.items x).1 [ inl f ↦ (f.0, f.2) | inr p ↦ absurd (omega (arith, lt, p.0)) ]
 
     first_kept : (x : ℕ) → (it : Item) × (slice_get v.items x ≡ Some it) → RowKept v [] v.tables (level_of v.items x) x (row_of v.items x)
     first_kept x f =

@@ -17,7 +17,7 @@ use Rattle.rules.specs.Watermarks.{collected, least, stands_before, better, earl
 use Rattle.rules.proofs.Inside.{in_left, in_right, in_either, nth_of_in, in_nth, nth_set_same, nth_set_other}
 
 not_free : (n t : ℕ) → Free ≡ Open n t → ⊥
-not_free n t e = let z : ◌≡◌ {A = ℕ} 0 1 = cc in omega arith
+not_free n t e = cc
 
 open_number : (k n s t : ℕ) → Open k s ≡ Open n t → k ≡ n
 open_number k n s t e = cc

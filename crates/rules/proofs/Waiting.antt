@@ -13,11 +13,11 @@ use Rattle.rules.specs.Runs.{answer_by, run}
 use Rattle.rules.specs.States.{Parts, State, table_at}
 use Rattle.rules.specs.Steps.{settled, and_then, known, sender, item_of, own_read, wait, lower_read, read_below, read_item, reading, read_done}
 use Rattle.rules.specs.Watermarks.{at_or_below, floor, stands_before, waited_for}
-use Rattle.rules.specs.declared.answer.Answer.TheVariants.{Value, Refused}
+use Rattle.rules.specs.declared.answer.Reply.TheVariants.{Value}
 use Rattle.rules.specs.declared.decision.Chosen.{Chosen}
 use Rattle.rules.specs.declared.decision.Reading.{Reading}
 use Rattle.rules.specs.declared.refusal.Refusal.{Refusal}
-use Rattle.rules.specs.declared.refusal.Refusal.TheVariants.{Unfit, UnknownLevel, NotActive, UnknownItem, NotDominated, PendingOther, Dropped, Wait, LowerPending}
+use Rattle.rules.specs.declared.refusal.Refusal.TheVariants.{Unfit, UnknownLevel, NotActive, UnknownItem, NotDominated, PendingOther, Wait, LowerPending}
 use Rattle.rules.proofs.History.{Event}
 use Rattle.rules.proofs.Invariant.{ActiveIn, Inv}
 use Rattle.rules.proofs.Inverted.{sender_ok, known_ok}
@@ -26,47 +26,40 @@ use Rattle.rules.proofs.Reaching.{history, reached}
 use Rattle.rules.proofs.ReadStep.{sender_active}
 use Rattle.rules.proofs.Tabled.{earliest_some, earliest_none}
 
--- no acceptance is a refusal
-ok_err : {A : Type 0} (e : Refusal) (a : A) → ◌≡◌ {A = Result A Refusal} (Ok a) (Err e) → ⊥
-ok_err e a h = let z : ◌≡◌ {A = ℕ} 0 1 = cc in omega arith
-
-same_err : {A : Type 0} (d e : Refusal) → ◌≡◌ {A = Result A Refusal} (Err d) (Err e) → d ≡ e
-same_err d e h = cc
-
 then_err : {A B : Type 0} (r : Result A Refusal) (f : A → Result B Refusal) (e : Refusal) → and_then r f ≡ Err e
     → (r ≡ Err e) ⊎ ((a : A) × (r ≡ Ok a) × (f a ≡ Err e))
 then_err (Ok a) f e h = inr (a, refl, h)
-then_err (Err d) f e h = inl (ap Err (same_err d e h))
+then_err (Err d) f e h = inl cc
 
 known_err : {A : Type 0} (o : Option A) (d e : Refusal) → known o d ≡ Err e → d ≡ e
-known_err None d e h = same_err d e h
-known_err (Some a) d e h = absurd (ok_err e a h)
+known_err None d e h = cc
+known_err (Some a) d e h = absurd cc
 
 -- a test whose other way is another refusal
 past : {A : Type 0} (b : Bool) (r : Result A Refusal) (d e : Refusal) → (d ≡ e → ⊥) → cond b r (Err d) ≡ Err e → r ≡ Err e
 past true r d e ne h = h
-past false r d e ne h = absurd (ne (same_err d e h))
+past false r d e ne h = absurd (ne cc)
 
 not_past : {A : Type 0} (b : Bool) (a : A) (d e : Refusal) → (d ≡ e → ⊥) → cond b (Err d) (Ok a) ≡ Err e → ⊥
-not_past true a d e ne h = ne (same_err d e h)
-not_past false a d e ne h = ok_err e a h
+not_past true a d e ne h = ne cc
+not_past false a d e ne h = cc
 
 sender_waits_not : (P : Parts) (s : State) (l n a k : ℕ) → sender P s l n ≡ Err (Wait a k) → ⊥
 sender_waits_not P s l n a k h =
-    let p = past s.sound _ Unfit (Wait a k) (λ q. let z : ◌≡◌ {A = ℕ} 0 1 = cc in omega arith) h in
-    let r = past (ltb l P.order.levels) (known (held (table_at s l) n) NotActive) UnknownLevel (Wait a k) (λ q. let z : ◌≡◌ {A = ℕ} 0 1 = cc in omega arith) p in
+    let p = past s.sound _ Unfit (Wait a k) (λ q. cc) h in
+    let r = past (ltb l P.order.levels) (known (held (table_at s l) n) NotActive) UnknownLevel (Wait a k) (λ q. cc) p in
     let e = known_err (held (table_at s l) n) NotActive (Wait a k) r in
-    let z : ◌≡◌ {A = ℕ} 0 1 = cc in omega arith
+    cc
 
 own_waits_not : (l n : ℕ) (o : Option Chosen) (a k : ℕ) → own_read l n o ≡ Err (Wait a k) → ⊥
-own_waits_not l n None a k h = let e = same_err Dropped (Wait a k) h in let z : ◌≡◌ {A = ℕ} 0 1 = cc in omega arith
+own_waits_not l n None a k h = cc
 own_waits_not l n (Some c) a k h =
     not_past (is_pending c.version && not (eqb c.version.number n)) _ (PendingOther l c.version.number) (Wait a k)
-    (λ q. let z : ◌≡◌ {A = ℕ} 0 1 = cc in omega arith) h
+    (λ q. cc) h
 
 lower_waits_not : (o : Option Chosen) (a k : ℕ) → lower_read o ≡ Err (Wait a k) → ⊥
-lower_waits_not None a k h = let e = same_err Dropped (Wait a k) h in let z : ◌≡◌ {A = ℕ} 0 1 = cc in omega arith
-lower_waits_not (Some c) a k h = not_past (is_pending c.version) _ LowerPending (Wait a k) (λ q. let z : ◌≡◌ {A = ℕ} 0 1 = cc in omega arith) h
+lower_waits_not None a k h = cc
+lower_waits_not (Some c) a k h = not_past (is_pending c.version) _ LowerPending (Wait a k) (λ q. cc) h
 
 -- the reader's stamp is above the floor
 abbrev Waits : Parts → State → ℕ → ℕ → ℕ → ℕ → Type 0
@@ -74,7 +67,7 @@ Waits P s b t a k = (floor P s b < t) × (wait (waited_for P s b) ≡ Wait a k)
 
 below_waits : (P : Parts) (s : State) (t : ℕ) (it : Item) (a k : ℕ) (b : Bool) → ltb (floor P s it.level) t ≡ b
     → cond b (Err (wait (waited_for P s it.level))) (lower_read (last_that (older_than t) it.row)) ≡ Err (Wait a k) → Waits P s it.level t a k
-below_waits P s t it a k true q h = (ltb-true (floor P s it.level) t q, same_err {A = Reading} _ _ h)
+below_waits P s t it a k true q h = (ltb-true (floor P s it.level) t q, cc)
 below_waits P s t it a k false q h = absurd (lower_waits_not (last_that (older_than t) it.row) a k h)
 
 by_level : (P : Parts) (s : State) (l n : ℕ) (hd : Held) (it : Item) (a k : ℕ) (b : Bool)
@@ -91,11 +84,11 @@ item_waits : (P : Parts) (s : State) (l n x a k : ℕ) (hd : Held) → and_then 
     → Waits P s (level_of s.items x) hd.stamp a k
 item_waits P s l n x a k hd h =
     elim (then_err (item_of s x) (read_item P s l n hd) (Wait a k) h) [
-      | inl e ↦ let d = known_err (slice_get s.items x) UnknownItem (Wait a k) e in let z : ◌≡◌ {A = ℕ} 0 1 = cc in absurd (omega arith)
+      | inl e ↦ let d = known_err (slice_get s.items x) UnknownItem (Wait a k) e in absurd cc
       | inr g ↦
           let it : Item = g.0 in
           let found = known_ok (slice_get s.items x) UnknownItem it g.1 in
-          let r = past (P.order.dominates l it.level) _ NotDominated (Wait a k) (λ q. let z : ◌≡◌ {A = ℕ} 0 1 = cc in omega arith) g.2 in
+          let r = past (P.order.dominates l it.level) _ NotDominated (Wait a k) (λ q. cc) g.2 in
           subst (λ b. Waits P s b hd.stamp a k) (sym (ap level_in found)) (by_level P s l n hd it a k (eqb it.level l) r)
     ]
 
@@ -124,8 +117,8 @@ named P s b t a k le lt (Some y) q e =
     (y, ea, ek, f.0, f.1)
 
 wait_told : (P : Parts) (v : State) (h : List Event) (s : State) → Inv P v h s → (l n x a k : ℕ) (r : Result Reading Refusal) → reading P s l n x ≡ r
-    → answer_by Value (settled s (read_done s x) r).0 ≡ Refused (Wait a k) → Earliest P s (level_of s.items x) a k
-wait_told P v h s I l n x a k (Ok r) q d = let z : ◌≡◌ {A = ℕ} 0 1 = cc in absurd (omega arith)
+    → answer_by Value (settled s (read_done s x) r).0 ≡ Err (Wait a k) → Earliest P s (level_of s.items x) a k
+wait_told P v h s I l n x a k (Ok r) q d = absurd cc
 wait_told P v h s I l n x a k (Err e) q d =
     let same : e ≡ Wait a k = cc in
     let w = waiting P s l n x a k (q ∙ ap Err same) in

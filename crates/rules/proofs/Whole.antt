@@ -1,5 +1,6 @@
 -- Every run has a right history, so the law of serial runs holds of it; and a running order exists. Assumes nothing.
 use Rattle.std.proofs.Common.{◌≡◌, ℕ, ◌≤◌, Bool, true, false, cond, ◌⊎◌, List, [], ◌∷◌, ◌++◌, map, length, Some, None, Ok, Err, Option, Result, sym, refl, ap, ◌∙◌, subst, ap₂, inl, inr, arith}
+use mathlib.Core.Path.{fun_ext}
 use Rattle.std.proofs.lemmas.Bool.{both_ways}
 use Rattle.shelves.specs.Items.{level_of, row_of}
 use Rattle.shelves.specs.Rows.{is_committed}
@@ -7,6 +8,7 @@ use Rattle.shelves.specs.declared.version.State.{State as Standing}
 use Rattle.shelves.specs.declared.version.State.TheVariants.{Committed}
 use Rattle.tables.specs.declared.place.Held.{Held}
 use Rattle.tables.specs.declared.place.Place.TheVariants.{Open}
+use Rattle.rules.specs.Answers.{Answer}
 use Rattle.rules.specs.Choices.{last_that}
 use Rattle.rules.specs.Members.{In}
 use Rattle.rules.specs.Runs.{answer_by, step, run, log}
@@ -14,8 +16,7 @@ use Rattle.rules.specs.Serial.{fed_call, feeds, Transaction, is_named, committed
 use Rattle.rules.specs.States.{Parts, State}
 use Rattle.rules.specs.Steps.{settled, sender, admission, admitted, reading, read_done, writing, write_done, commit_edit, ended as end_done}
 use Rattle.rules.specs.Watermarks.{strictly_dominates}
-use Rattle.rules.specs.declared.answer.Answer.{Answer}
-use Rattle.rules.specs.declared.answer.Answer.TheVariants.{Begun, Value, Done}
+use Rattle.rules.specs.declared.answer.Reply.TheVariants.{Begun, Value, Done}
 use Rattle.rules.specs.declared.call.Call.{Call}
 use Rattle.rules.specs.declared.call.Call.TheVariants.{Tick, Begin, Read, Write, Commit, Abort}
 use Rattle.rules.specs.declared.decision.Admission.{Admission}
@@ -66,9 +67,9 @@ module _ (P : Parts) (v : State) (h : List Event) (s : State) (I : Inv P v h s) 
   saw_lower : (g : List Event) → ReadsKept P v h s g → (l n x b : ℕ) → In (saw l n x b) g
       → (level_of v.items x ≡ l) ⊎ (strictly_dominates P.order l (level_of v.items x) ≡ true)
   saw_lower [] r l n x b i = absurd i
-  saw_lower (idle ∷ g) r l n x b (inl e) = let z : ◌≡◌ {A = ℕ} 0 1 = cc in absurd (omega arith)
+  saw_lower (idle ∷ g) r l n x b (inl e) = absurd cc
   saw_lower (idle ∷ g) r l n x b (inr i) = saw_lower g r l n x b i
-  saw_lower (began a k t ∷ g) r l n x b (inl e) = let z : ◌≡◌ {A = ℕ} 0 1 = cc in absurd (omega arith)
+  saw_lower (began a k t ∷ g) r l n x b (inl e) = absurd cc
   saw_lower (began a k t ∷ g) r l n x b (inr i) = saw_lower g r l n x b i
   saw_lower (saw a k y c ∷ g) r l n x b (inl e) =
       let ea : a ≡ l = cc in
@@ -76,9 +77,9 @@ module _ (P : Parts) (v : State) (h : List Event) (s : State) (I : Inv P v h s) 
       subst (λ m. (level_of v.items x ≡ m) ⊎ (strictly_dominates P.order m (level_of v.items x) ≡ true)) ea
       (subst (λ m. (level_of v.items m ≡ a) ⊎ (strictly_dominates P.order a (level_of v.items m) ≡ true)) ey r.0.lower)
   saw_lower (saw a k y c ∷ g) r l n x b (inr i) = saw_lower g r.1 l n x b i
-  saw_lower (stored a k y c ∷ g) r l n x b (inl e) = let z : ◌≡◌ {A = ℕ} 0 1 = cc in absurd (omega arith)
+  saw_lower (stored a k y c ∷ g) r l n x b (inl e) = absurd cc
   saw_lower (stored a k y c ∷ g) r l n x b (inr i) = saw_lower g r l n x b i
-  saw_lower (ended a k ∷ g) r l n x b (inl e) = let z : ◌≡◌ {A = ℕ} 0 1 = cc in absurd (omega arith)
+  saw_lower (ended a k ∷ g) r l n x b (inl e) = absurd cc
   saw_lower (ended a k ∷ g) r l n x b (inr i) = saw_lower g r l n x b i
 
   module _ (x : ℕ) (kept : RowKept v h s.tables (level_of v.items x) x (row_of s.items x)) where
@@ -181,10 +182,6 @@ answered_seen P u (c ∷ cs) s =
     ap (λ es. answer_to u c (step P s c).0 ++ es) (answered_seen P u cs (step P s c).1)
     ∙ (step_tells P s c).seen u (events (log P (step P s c).1 cs))
 
-map_same : (f g : Transaction → List ℕ) → ((u : Transaction) → f u ≡ g u) → (us : List Transaction) → map f us ≡ map g us
-map_same f g e [] = refl
-map_same f g e (u ∷ us) = ap₂ ◌∷◌ (e u) (map_same f g e us)
-
 pub serial_run_gives_answered_values : SerialRunGivesAnsweredValues
 serial_run_gives_answered_values P v cs st us ro =
     let es : List Event = events (log P v cs) in
@@ -193,7 +190,7 @@ serial_run_gives_answered_values P v cs st us ro =
     let fed : feeds (log P v cs) ≡ map told es = feeds_told P cs v in
     let right = serial_run_right P.order (level_of v.items) first (newest (run P v cs).1.items) (length v.items) es
     (history_right P v (onto es []) (run P v cs).1 I) us (subst (λ fs. RunningOrder P.order (committed_ones fs) us) fed ro) in (
-      ap (λ fs. serial_reads fs us first) fed ∙ right.0 ∙ map_same (λ u. seen_by u es) (answered (log P v cs)) (λ u. sym (answered_seen P u cs v)) us,
+      ap (λ fs. serial_reads fs us first) fed ∙ right.0 ∙ ap (λ f. map f us) (fun_ext (λ u. sym (answered_seen P u cs v))),
       λ x lt. ap (λ fs. serial_values fs us first x) fed ∙ right.1 x lt,
     )
 

@@ -1,9 +1,13 @@
 -- Answers by their numbers and the values printed. Assumes nothing.
-use Rattle.std.specs.Prelude.{ℕ, List, [], ◌∷◌}
-use Rattle.rules.specs.declared.answer.Answer.{Answer}
-use Rattle.rules.specs.declared.answer.Answer.TheVariants.{Clock, Begun, Value, Done, Refused}
+use Rattle.std.specs.Prelude.{ℕ, List, [], ◌∷◌, Ok, Err, Result}
+use Rattle.rules.specs.declared.answer.Reply.{Reply}
+use Rattle.rules.specs.declared.answer.Reply.TheVariants.{Clock, Begun, Value, Done}
 use Rattle.rules.specs.declared.refusal.Refusal.{Refusal}
 use Rattle.rules.specs.declared.refusal.Refusal.TheVariants.{Unfit, ClockAtEnd, UnknownLevel, DegreeTooHigh, NotActive, UnknownItem, NotDominated, OtherLevel, TableFull, NumbersAtEnd, PendingOther, ReadLater, RowFull, Dropped, Wait, LowerPending}
+
+-- what a call is answered: what it gives when it is accepted, or why it is refused
+abbrev pub Answer : Type 0
+Answer = Result Reply Refusal
 
 -- the number under which a refusal is known outside
 abbrev pub refusal_number : Refusal → ℕ
@@ -45,16 +49,13 @@ additions LowerPending = []
 
 -- 0 for an accepted call
 abbrev pub answer_number : Answer → ℕ
-answer_number (Clock c) = 0
-answer_number (Begun n t) = 0
-answer_number (Value x) = 0
-answer_number Done = 0
-answer_number (Refused r) = refusal_number r
+answer_number (Ok r) = 0
+answer_number (Err e) = refusal_number e
 
 -- the values printed behind the number
 abbrev pub answer_values : Answer → List ℕ
-answer_values (Clock c) = c ∷ []
-answer_values (Begun n t) = n ∷ t ∷ []
-answer_values (Value x) = x ∷ []
-answer_values Done = []
-answer_values (Refused r) = additions r
+answer_values (Ok (Clock c)) = c ∷ []
+answer_values (Ok (Begun n t)) = n ∷ t ∷ []
+answer_values (Ok (Value x)) = x ∷ []
+answer_values (Ok Done) = []
+answer_values (Err e) = additions e

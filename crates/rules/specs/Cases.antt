@@ -6,11 +6,10 @@ use Rattle.orders.specs.Chains.{chain}
 use Rattle.placements.specs.Cases.{share_rounds_up, degrees_pass_over}
 use Rattle.placements.specs.Placings.{behind}
 use Rattle.shelves.specs.Items.{Item, first_item, row_of}
-use Rattle.rules.specs.Answers.{answer_number, answer_values}
+use Rattle.rules.specs.Answers.{Answer, answer_number, answer_values}
 use Rattle.rules.specs.Runs.{run}
 use Rattle.rules.specs.Starts.{start}
 use Rattle.rules.specs.States.{Parts}
-use Rattle.rules.specs.declared.answer.Answer.{Answer}
 use Rattle.rules.specs.declared.call.Call.{Call}
 use Rattle.rules.specs.declared.call.Call.TheVariants.{Begin, Read, Write, Commit}
 

@@ -1,5 +1,5 @@
 -- What holds in every state that a run reaches. Assumes nothing.
-use Rattle.std.specs.Prelude.{◌≡◌, ℕ, ◌<◌, ◌≤◌, true, List, Some, ◌≢◌}
+use Rattle.std.specs.Prelude.{◌≡◌, ℕ, ◌<◌, ◌≤◌, true, List, Some, Ok, Err, ◌≢◌}
 use Rattle.std.specs.List.{AllByRecursion, slice_get}
 use Rattle.shelves.specs.Items.{level_of, row_of}
 use Rattle.shelves.specs.Rows.{keeps_rule}
@@ -14,7 +14,7 @@ use Rattle.rules.specs.Starts.{Start}
 use Rattle.rules.specs.States.{Parts, State, table_at}
 use Rattle.rules.specs.Steps.{lowest}
 use Rattle.rules.specs.Watermarks.{at_or_below, floor, stands_before}
-use Rattle.rules.specs.declared.answer.Answer.TheVariants.{Done, Refused}
+use Rattle.rules.specs.declared.answer.Reply.TheVariants.{Done}
 use Rattle.rules.specs.declared.call.Call.{Call}
 use Rattle.rules.specs.declared.call.Call.TheVariants.{Read, Write}
 use Rattle.rules.specs.declared.refusal.Refusal.TheVariants.{Wait}
@@ -64,7 +64,7 @@ abbrev pub WrittenVersionStands : Type 0
 WrittenVersionStands =
     (P : Parts) (v : State) (cs : List Call) (l n x a : ℕ) → Start P v →
     let s = (run P v cs).1 in
-    (step P s (Write l n x a)).0 ≡ Done →
+    (step P s (Write l n x a)).0 ≡ Ok Done →
     (w : Version) × In w (row_of (step P s (Write l n x a)).1.items x) × (w.number ≡ n) × (w.state ≡ Pending) × (w.value ≡ a)
 
 -- every pending version belongs to an active transaction of the item's level, and carries its number and stamp
@@ -103,5 +103,5 @@ WaitNamesTheEarliest =
     (P : Parts) (v : State) (cs : List Call) (l n x a k : ℕ) → Start P v →
     let s = (run P v cs).1 in
     let all = at_or_below P s (level_of s.items x) in
-    (step P s (Read l n x)).0 ≡ Refused (Wait a k) →
+    (step P s (Read l n x)).0 ≡ Err (Wait a k) →
     (y : Active) × (y.level ≡ a) × (y.number ≡ k) × In y all × ((z : Active) → In z all → stands_before z y ≢ true)

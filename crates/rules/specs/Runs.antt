@@ -1,19 +1,20 @@
 -- One call of any kind, and runs of many. Assumes nothing.
-use Rattle.std.specs.Prelude.{◌≡◌, Bool, true, false, List, [], ◌∷◌, Ok, Err, Result}
+use Rattle.std.specs.Prelude.{◌≡◌, Bool, List, [], ◌∷◌, Err, Result}
+use Rattle.std.specs.Result.{is_ok, result_map_both}
+use Rattle.rules.specs.Answers.{Answer}
 use Rattle.rules.specs.States.{Parts, State}
 use Rattle.rules.specs.Steps.{Outcome, tick, begin, read, write, commit, abort}
-use Rattle.rules.specs.declared.answer.Answer.{Answer}
-use Rattle.rules.specs.declared.answer.Answer.TheVariants.{Clock, Begun, Value, Done, Refused}
+use Rattle.rules.specs.declared.answer.Reply.{Reply}
+use Rattle.rules.specs.declared.answer.Reply.TheVariants.{Clock, Begun, Value, Done}
 use Rattle.rules.specs.declared.call.Call.{Call}
 use Rattle.rules.specs.declared.call.Call.TheVariants.{Tick, Begin, Read, Write, Commit, Abort}
 use Rattle.rules.specs.declared.refusal.Refusal.{Refusal}
 
 -- the answer of a call, from what it gives when it is accepted
-abbrev pub answer_by : {R : Type 0} → (R → Answer) → Result R Refusal → Answer
-answer_by f (Ok r) = f r
-answer_by f (Err e) = Refused e
+abbrev pub answer_by : {R : Type 0} → (R → Reply) → Result R Refusal → Answer
+answer_by f r = result_map_both f (λ e. e) r
 
-abbrev pub answered_by : {R : Type 0} → (R → Answer) → Outcome R → Answer × State
+abbrev pub answered_by : {R : Type 0} → (R → Reply) → Outcome R → Answer × State
 answered_by f o = (answer_by f o.0, o.1)
 
 -- the answer to a call, and the state after it
@@ -27,7 +28,7 @@ step P s (Abort l n) = answered_by (λ _. Done) (abort P s l n)
 
 -- a refused call leaves the state as it was
 abbrev pub RefusedCallLeavesState : Type 0
-RefusedCallLeavesState = (P : Parts) (s : State) (c : Call) (e : Refusal) → (step P s c).0 ≡ Refused e → (step P s c).1 ≡ s
+RefusedCallLeavesState = (P : Parts) (s : State) (c : Call) (e : Refusal) → (step P s c).0 ≡ Err e → (step P s c).1 ≡ s
 
 -- the answers to a list of calls, one by one, and the state after them
 abbrev pub run : Parts → State → List Call → List Answer × State
@@ -50,8 +51,4 @@ abbrev pub log : Parts → State → List Call → List Sent
 log P s cs = logged cs (run P s cs).0
 
 abbrev pub accepted : Answer → Bool
-accepted (Clock c) = true
-accepted (Begun n t) = true
-accepted (Value x) = true
-accepted Done = true
-accepted (Refused e) = false
+accepted r = is_ok r

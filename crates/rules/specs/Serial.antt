@@ -1,18 +1,18 @@
 -- Law: a serial run of the committed transactions gives the answered values. Assumes nothing.
-use Rattle.std.specs.Prelude.{◌≡◌, ℕ, ◌<◌, ◌≤◌, Bool, false, cond, ◌&&◌, ◌||◌, List, [], ◌∷◌, ◌++◌, map, length, Some, None, filter, Option, ◌==◌}
+use Rattle.std.specs.Prelude.{◌≡◌, ℕ, ◌<◌, ◌≤◌, Bool, false, cond, ◌&&◌, ◌||◌, List, [], ◌∷◌, ◌++◌, map, length, Some, None, Ok, Err, filter, Option, ◌==◌}
 use Rattle.std.specs.List.{AllByRecursion}
 use Rattle.orders.specs.Orders.{Order}
 use Rattle.shelves.specs.Items.{Item, row_of}
 use Rattle.shelves.specs.Rows.{is_committed}
 use Rattle.shelves.specs.declared.version.Version.{Version}
+use Rattle.rules.specs.Answers.{Answer}
 use Rattle.rules.specs.Choices.{last_that}
 use Rattle.rules.specs.Members.{In}
 use Rattle.rules.specs.Runs.{run, Sent, log, accepted}
 use Rattle.rules.specs.Starts.{Start}
 use Rattle.rules.specs.States.{Parts, State}
 use Rattle.rules.specs.Watermarks.{strictly_dominates}
-use Rattle.rules.specs.declared.answer.Answer.{Answer}
-use Rattle.rules.specs.declared.answer.Answer.TheVariants.{Clock, Begun, Value, Done, Refused}
+use Rattle.rules.specs.declared.answer.Reply.TheVariants.{Clock, Begun, Value, Done}
 use Rattle.rules.specs.declared.call.Call.{Call}
 use Rattle.rules.specs.declared.call.Call.TheVariants.{Tick, Begin, Read, Write, Commit, Abort}
 use Rattle.rules.specs.declared.decision.Chosen.{Chosen}
@@ -31,11 +31,11 @@ pub data Fed (V : Type 0) : Type 0 where
   commits : ℕ → ℕ → Fed V
 
 abbrev pub fed_begin : ℕ → Answer → Fed ℕ
-fed_begin l (Clock c) = skipped
-fed_begin l (Begun n t) = begun l n t
-fed_begin l (Value x) = skipped
-fed_begin l Done = skipped
-fed_begin l (Refused e) = skipped
+fed_begin l (Ok (Clock c)) = skipped
+fed_begin l (Ok (Begun n t)) = begun l n t
+fed_begin l (Ok (Value x)) = skipped
+fed_begin l (Ok Done) = skipped
+fed_begin l (Err e) = skipped
 
 -- what is fed for a call and its answer
 abbrev pub fed_call : Call → Answer → Fed ℕ
@@ -136,11 +136,11 @@ serial_values fs [] σ = σ
 serial_values fs (u ∷ us) σ = serial_values fs us (leaves u fs σ)
 
 abbrev pub value_read : Answer → List ℕ
-value_read (Clock c) = []
-value_read (Begun n t) = []
-value_read (Value x) = x ∷ []
-value_read Done = []
-value_read (Refused e) = []
+value_read (Ok (Clock c)) = []
+value_read (Ok (Begun n t)) = []
+value_read (Ok (Value x)) = x ∷ []
+value_read (Ok Done) = []
+value_read (Err e) = []
 
 abbrev pub answer_to : Transaction → Call → Answer → List ℕ
 answer_to u Tick r = []

@@ -4,8 +4,9 @@ ghost use Rattle.rules.specs.Answers.{answer_number};
 
 use crate::refusal::Refusal;
 
-#[derive(Clone, Copy, PartialEq, Debug)]
-pub enum Answer {
+// What an accepted call answers.
+#[derive(Clone, Copy, PartialEq, Eq, Debug)]
+pub enum Reply {
     // The clock after a tick.
     Clock(u32),
     // Number and stamp of the transaction that began.
@@ -14,20 +15,17 @@ pub enum Answer {
     Value(u64),
     // A write or an end was accepted.
     Done,
-    Refused(Refusal),
 }
 
-impl Answer {
-    // 0 for an accepted call, otherwise the number of the refusal.
-    pub fn number(self) -> u8
-        ensures { result ≡ answer_number self }
-    {
-        match self {
-            Answer::Clock(_) => 0,
-            Answer::Begun(_, _) => 0,
-            Answer::Value(_) => 0,
-            Answer::Done => 0,
-            Answer::Refused(refusal) => refusal.number(),
-        }
+// What any call answers: its reply, or why it is refused.
+pub type Answer = Result<Reply, Refusal>;
+
+// 0 for an accepted call, otherwise the number of the refusal. A function: `Answer` is the library's `Result`, so no `From` of it can stand here.
+pub fn answer_number(answer: Answer) -> u8
+    ensures { result ≡ answer_number answer }
+{
+    match answer {
+        Ok(_) => 0,
+        Err(refusal) => u8::from(refusal),
     }
 }

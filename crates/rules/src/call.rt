@@ -1,6 +1,14 @@
 // The calls of a scheduler.
 
-#[derive(Clone, Copy)]
+// A level and a begin number at it, which together name a transaction.
+#[derive(Clone, Copy, PartialEq, Eq, Debug)]
+pub struct TransactionId {
+    pub level: u8,
+    pub number: u32,
+}
+
+// Its cases are the lines of a script, field by field, and every law names level and number one by one, so the two stand apart.
+#[derive(Clone, Copy, PartialEq, Eq, Debug)]
 pub enum Call {
     // Advances the clock.
     Tick,

@@ -7,8 +7,8 @@ mod decision;
 mod laws;
 mod refusal;
 
-pub use answer::Answer;
-pub use call::Call;
+pub use answer::{Answer, Reply, answer_number};
+pub use call::{Call, TransactionId};
 pub use decision::{Admission, Chosen, Reading, Writing};
 pub use laws::{
     choices_have_largest_number, committed_transactions_are_serial,

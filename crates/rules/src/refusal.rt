@@ -2,47 +2,57 @@
 ghost use Rattle.std.specs.Prelude.{◌≡◌};
 ghost use Rattle.rules.specs.Answers.{refusal_number};
 
-#[derive(Clone, Copy, PartialEq, Eq, Debug)]
+use thiserror::Error;
+
+// `PendingOther` and `Wait` hold level and number apart: an answer is printed field by field, and every law names the two one by one.
+#[derive(Clone, Copy, PartialEq, Eq, Debug, Error)]
 pub enum Refusal {
-    // The parts do not fit.
+    #[error("the parts do not fit")]
     Unfit,
-    // The clock stands at its last value.
+    #[error("the clock stands at its last value")]
     ClockAtEnd,
-    // The level is not one of the order's.
+    #[error("the level is not one of the order's")]
     UnknownLevel,
-    // The degree is above 100.
+    #[error("the degree is above 100")]
     DegreeTooHigh,
-    // The level has no such active transaction.
+    #[error("the level has no such active transaction")]
     NotActive,
+    #[error("there is no such item")]
     UnknownItem,
     // Read of an item whose level is not dominated.
+    #[error("the level of the item is not dominated")]
     NotDominated,
     // Write of an item of another level.
+    #[error("the item is of another level")]
     OtherLevel,
-    // Eight transactions of the level are active.
+    #[error("eight transactions of the level are active")]
     TableFull,
-    // The last begin number was given.
+    #[error("the last begin number was given")]
     NumbersAtEnd,
     // The chosen version is pending and of another transaction, at this level and with this number.
+    #[error("the version is pending, of transaction {1} of level {0}")]
     PendingOther(u8, u32),
-    // A later transaction of the level has read the predecessor.
+    #[error("a later transaction of the level has read the predecessor")]
     ReadLater,
-    // The row is full and its two oldest versions are not both committed.
+    #[error("the row is full and its two oldest versions are not both committed")]
     RowFull,
     // There is no version to choose, or no predecessor, since it was dropped.
+    #[error("the version was dropped")]
     Dropped,
     // Wait for the active transaction at this level and with this number.
+    #[error("wait for transaction {1} of level {0}")]
     Wait(u8, u32),
     // The lower version chosen is pending.
+    #[error("the lower version is pending")]
     LowerPending,
 }
 
-impl Refusal {
+impl From<Refusal> for u8 {
+    ghost from_gives = { λ refusal number. number ≡ refusal_number refusal };
+
     // The number under which it is known outside.
-    pub fn number(self) -> u8
-        ensures { result ≡ refusal_number self }
-    {
-        match self {
+    fn from(refusal: Refusal) -> u8 {
+        match refusal {
             Refusal::Unfit => 4,
             Refusal::ClockAtEnd => 5,
             Refusal::UnknownLevel => 6,
