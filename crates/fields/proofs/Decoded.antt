@@ -1,13 +1,15 @@
 -- What was written is read again. Assumes nothing.
 use Rattle.std.proofs.Common.{◌≡◌, ℕ, zero, suc, ◌+◌, ◌-◌, ◌*◌, ◌/◌, ◌%◌, ◌<◌, ◌≤◌, List, [], ◌∷◌, ◌++◌, length, get_or, sym, refl, ap, ◌∙◌, ap₂, add-zero, arith}
 use Rattle.std.specs.List.{AllByRecursion}
-use Rattle.std.proofs.lemmas.List.{get_or-append_right, get_or_past}
+use Rattle.std.proofs.lemmas.List.{get_or-append_right}
 use Rattle.shelves.specs.Edits.{blank}
 use Rattle.shelves.specs.declared.version.State.{State}
 use Rattle.shelves.specs.declared.version.State.TheVariants.{Committed, Pending}
 use Rattle.shelves.specs.declared.version.Version.{Version}
-use Rattle.fields.specs.Fields.{byte, field32, field64, state_of, version_at}
-use Rattle.fields.specs.Written.{state_number, version_bytes, row_bytes, VersionFits}
+use Rattle.shelves.specs.States.{state_of}
+use Rattle.fields.specs.Fields.{byte, field32, field64, version_at}
+use Rattle.shelves.specs.States.{state_number}
+use Rattle.fields.specs.Written.{version_bytes, row_bytes, VersionFits}
 
 -- fields depend on their bytes alone
 pub same32 : (bs cs : List ℕ) (a b : ℕ) → ((k : ℕ) → k < 4 → byte bs (a + k) ≡ byte cs (b + k)) → field32 bs a ≡ field32 cs b
@@ -121,24 +123,3 @@ read_fits bs a h = record {
 
 pub blank_fits : VersionFits blank
 blank_fits = record { number = omega arith; stamp = omega arith; mark = omega arith; value = omega arith }
-
--- past the end
-pub past32 : (bs : List ℕ) (a : ℕ) → length bs ≤ a → field32 bs a ≡ 0
-past32 bs a h =
-    omega (arith, get_or_past bs a 0 h, get_or_past bs (a + 1) 0 (omega arith), get_or_past bs (a + 2) 0 (omega arith), get_or_past bs (a + 3) 0 (omega arith))
-
-pub past_version : (bs : List ℕ) (a : ℕ) → length bs ≤ a → version_at bs a ≡ blank
-past_version bs a h =
-    let n = past32 bs a h in
-    let t = past32 bs (a + 4) (omega arith) in
-    let r = past32 bs (a + 8) (omega arith) in
-    let s = past32 bs (a + 12) (omega arith) in
-    let low = past32 bs (a + 16) (omega arith) in
-    let high = past32 bs (a + 16 + 4) (omega arith) in
-    λ i. record {
-      number = n i;
-      stamp = t i;
-      mark = r i;
-      state = state_of (s i);
-      value = low i + 4294967296 * high i;
-    }

@@ -1,10 +1,11 @@
 -- One paste after another, and what stands where afterwards. Assumes nothing.
-use Rattle.std.proofs.Common.{◌≡◌, ℕ, suc, ◌+◌, ◌-◌, ◌*◌, ◌<◌, ◌≤◌, true, false, List, [], ◌∷◌, ◌++◌, length, get_or, take, drop, set, sym, refl, ap, ◌∙◌, ap₂, add-zero, arith}
+use Rattle.std.proofs.Common.{◌≡◌, ℕ, suc, ◌+◌, ◌-◌, ◌*◌, ◌/◌, ◌%◌, ◌^◌, ◌<◌, ◌≤◌, true, false, List, [], ◌∷◌, ◌++◌, length, get_or, take, drop, set, sym, refl, ap, ◌∙◌, ap₂, add-zero, arith}
+use Rattle.std.specs.Int.{w32, w64, to_le_bytes}
 use Rattle.std.proofs.lemmas.List.Edits.{sets-eq}
 use Rattle.std.proofs.lemmas.List.{length-append, length-take-le, length-drop, append_assoc, take-append-drop, take_more, flat_map_more, take_at, drop_at, drop-drop, get_or_append_left, get_or-append_right, get_or-take, get_or-drop}
 use Rattle.std.proofs.lemmas.Bool.{cond-true, cond-false, le-leb, lt-leb}
 use Rattle.shelves.specs.declared.version.Version.{Version}
-use Rattle.fields.specs.Written.{version_bytes, row_bytes, pasted, has_room, written}
+use Rattle.fields.specs.Written.{bytes32, bytes64, version_bytes, row_bytes, pasted, has_room, written}
 
 module _ (bs : List ℕ) (at : ℕ) (ds : List ℕ) (room : at + length ds ≤ length bs) where
   pub length_pasted : length (pasted bs at ds) ≡ length bs
@@ -51,21 +52,6 @@ module _ (bs : List ℕ) (at : ℕ) (ds : List ℕ) (room : at + length ds ≤ l
       ∙ ap (λ x. take at bs ++ x) (sym (append_assoc ds es (drop (at + length ds + length es) bs)))
       ∙ ap (λ n. take at bs ++ ((ds ++ es) ++ drop n bs)) sum
 
-pub four_sets : (bs : List ℕ) (at a b c d : ℕ) → at + 4 ≤ length bs
-    → set (set (set (set bs at a) (at + 1) b) (at + 2) c) (at + 3) d ≡ pasted bs at (a ∷ b ∷ c ∷ d ∷ [])
-four_sets bs at a b c d room =
-    let e1 : at + 1 ≡ suc at = omega arith in
-    let e2 : at + 2 ≡ suc (suc at) = omega arith in
-    let e3 : at + 3 ≡ suc (suc (suc at)) = omega arith in
-    ap (λ n. set (set (set (set bs at a) n b) (at + 2) c) (at + 3) d) e1
-    ∙ ap (λ n. set (set (set (set bs at a) (suc at) b) n c) (at + 3) d) e2
-    ∙ ap (λ n. set (set (set (set bs at a) (suc at) b) (suc (suc at)) c) n d) e3
-    ∙ sets-eq (a ∷ b ∷ c ∷ d ∷ []) bs at (omega arith)
-    ∙ append_assoc (take at bs) (a ∷ b ∷ c ∷ d ∷ []) (drop (at + 4) bs)
-
-pub one_set : (bs : List ℕ) (at x : ℕ) → at < length bs → set bs at x ≡ pasted bs at (x ∷ [])
-one_set bs at x room = sets-eq (x ∷ []) bs at (omega arith) ∙ append_assoc (take at bs) (x ∷ []) (drop (at + 1) bs)
-
 pub two_sets : (bs : List ℕ) (at a b : ℕ) → at + 2 ≤ length bs → set (set bs at a) (at + 1) b ≡ pasted bs at (a ∷ b ∷ [])
 two_sets bs at a b room =
     let e : at + 1 ≡ suc at = omega arith in
@@ -99,3 +85,33 @@ written_if_room bs at ds h = cond-true (has_room bs at ds) (pasted bs at ds) bs 
 
 pub written_if_none : (bs : List ℕ) (at : ℕ) (ds : List ℕ) → length bs < at + length ds → written bs at ds ≡ bs
 written_if_none bs at ds h = cond-false (has_room bs at ds) (pasted bs at ds) bs (has_room_false bs at ds h)
+
+-- the library's digits of a number
+pub le32 : (x : ℕ) → to_le_bytes w32 x ≡ bytes32 x
+le32 x =
+    let b : x / 256 ^ 1 % 256 ≡ x / 256 % 256 = omega arith in
+    let c : x / 256 ^ 2 % 256 ≡ x / 256 / 256 % 256 = omega arith in
+    let d : x / 256 ^ 3 % 256 ≡ x / 256 / 256 / 256 % 256 = omega arith in
+    λ i. x % 256 ∷ b i ∷ c i ∷ d i ∷ []
+
+pub le64 : (x : ℕ) → to_le_bytes w64 x ≡ bytes64 x
+le64 x =
+    let low : ℕ = x % 4294967296 in
+    let high : ℕ = x / 4294967296 in
+    let a : x % 256 ≡ low % 256 = omega arith in
+    let b : x / 256 ^ 1 % 256 ≡ low / 256 % 256 = omega arith in
+    let c : x / 256 ^ 2 % 256 ≡ low / 256 / 256 % 256 = omega arith in
+    let d : x / 256 ^ 3 % 256 ≡ low / 256 / 256 / 256 % 256 = omega arith in
+    let e : x / 256 ^ 4 % 256 ≡ high % 256 = omega arith in
+    let f : x / 256 ^ 5 % 256 ≡ high / 256 % 256 = omega arith in
+    let g : x / 256 ^ 6 % 256 ≡ high / 256 / 256 % 256 = omega arith in
+    let h : x / 256 ^ 7 % 256 ≡ high / 256 / 256 / 256 % 256 = omega arith in
+    λ i. a i ∷ b i ∷ c i ∷ d i ∷ e i ∷ f i ∷ g i ∷ h i ∷ []
+
+-- one version more of a row that fits
+pub row_written_more : (bs : List ℕ) (start j : ℕ) (vs : List Version) (d : Version) → start + 24 * length vs ≤ length bs → j < length vs
+    → written (pasted bs start (row_bytes (take j vs))) (start + 24 * j) (version_bytes (get_or vs j d)) ≡ pasted bs start (row_bytes (take (j + 1) vs))
+row_written_more bs start j vs d room h =
+    let n : length (row_bytes (take j vs)) ≡ 24 * j = length_row_bytes (take j vs) ∙ ap (λ m. 24 * m) (length-take-le j vs (omega arith)) in
+    let long = length_pasted bs start (row_bytes (take j vs)) (omega arith) in
+    written_if_room (pasted bs start (row_bytes (take j vs))) (start + 24 * j) (version_bytes (get_or vs j d)) (omega arith) ∙ row_pasted_more bs start j vs d room h

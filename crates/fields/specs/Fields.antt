@@ -1,8 +1,7 @@
 -- How numbers and versions stand in bytes: little-endian; bytes past the end count as 0. Assumes nothing.
-use Rattle.std.specs.Prelude.{ℕ, ◌+◌, ◌*◌, cond, List, ◌==◌, slice_index}
-use Rattle.shelves.specs.declared.version.State.{State}
-use Rattle.shelves.specs.declared.version.State.TheVariants.{Committed, Pending}
+use Rattle.std.specs.Prelude.{ℕ, ◌+◌, ◌*◌, List, slice_index}
 use Rattle.shelves.specs.declared.version.Version.{Version}
+use Rattle.shelves.specs.States.{state_of}
 
 abbrev pub byte : List ℕ → ℕ → ℕ
 byte bs at = slice_index bs at
@@ -12,10 +11,6 @@ field32 bs at = byte bs at + (256 * byte bs (at + 1) + (65536 * byte bs (at + 2)
 
 abbrev pub field64 : List ℕ → ℕ → ℕ
 field64 bs at = field32 bs at + 4294967296 * field32 bs (at + 4)
-
--- 0 stands for committed, any other number for pending
-abbrev pub state_of : ℕ → State
-state_of x = cond (x == 0) Committed Pending
 
 -- number, stamp, mark and state in four bytes each, the value in eight
 abbrev pub version_at : List ℕ → ℕ → Version

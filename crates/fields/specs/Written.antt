@@ -1,19 +1,14 @@
 -- What is written of numbers and versions, and all bytes afterwards. Assumes nothing.
 use Rattle.std.specs.Prelude.{ℕ, ◌+◌, ◌/◌, ◌%◌, ◌<◌, Bool, cond, List, [], ◌∷◌, ◌++◌, length, take, drop, nat_le}
 use Rattle.std.specs.List.{flat_map}
-use Rattle.shelves.specs.declared.version.State.{State}
-use Rattle.shelves.specs.declared.version.State.TheVariants.{Committed, Pending}
 use Rattle.shelves.specs.declared.version.Version.{Version}
+use Rattle.shelves.specs.States.{state_number}
 
 abbrev pub bytes32 : ℕ → List ℕ
 bytes32 x = x % 256 ∷ x / 256 % 256 ∷ x / 256 / 256 % 256 ∷ x / 256 / 256 / 256 % 256 ∷ []
 
 abbrev pub bytes64 : ℕ → List ℕ
 bytes64 x = bytes32 (x % 4294967296) ++ bytes32 (x / 4294967296)
-
-abbrev pub state_number : State → ℕ
-state_number Committed = 0
-state_number Pending = 1
 
 abbrev pub version_bytes : Version → List ℕ
 version_bytes v =

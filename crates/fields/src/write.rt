@@ -1,74 +1,38 @@
 // Numbers and versions written into bytes.
-ghost use Rattle.std.specs.Prelude.{◌≡◌, ◌+◌, ◌*◌, ◌≤◌, true, ◌++◌, length};
+ghost use Rattle.std.specs.Prelude.{◌≡◌, true};
 ghost use Rattle.std.specs.List.{AllByRecursion};
-ghost use Rattle.fields.specs.Written.{bytes32, bytes64, state_number, version_bytes, row_bytes, pasted, has_room, written, VersionFits};
+ghost use Rattle.fields.specs.Written.{bytes32, version_bytes, row_bytes, has_room, written, VersionFits};
 
-use shelves::{State, Version};
+use shelves::Version;
 
-fn put32(bytes: &mut [u8], at: usize, number: u32)
-    requires { at + 4 ≤ length bytes.old }
-    ensures { bytes.new ≡ pasted bytes.old at (bytes32 number) }
+// Puts bytes in place and says yes, or says no where they would not fit, and then no byte has changed.
+// Yes or no, here and below: whether there is room can be asked beforehand, and a caller that knows needs no answer.
+fn write(bytes: &mut [u8], at: usize, new: &[u8]) -> bool
+    ensures answer { result ≡ has_room bytes.old at new.now }
+    ensures after { bytes.new ≡ written bytes.old at new.now }
 {
-    bytes[at] = (number % 256) as u8;
-    bytes[at + 1] = (number / 256 % 256) as u8;
-    bytes[at + 2] = (number / 256 / 256 % 256) as u8;
-    bytes[at + 3] = (number / 256 / 256 / 256 % 256) as u8;
-}
-
-fn put64(bytes: &mut [u8], at: usize, number: u64)
-    requires { at + 8 ≤ length bytes.old }
-    ensures { bytes.new ≡ pasted bytes.old at (bytes64 number) }
-{
-    put32(bytes, at, (number % 4294967296) as u32);
-    put32(bytes, at + 4, (number / 4294967296) as u32);
-}
-
-fn number_of(state: State) -> u32
-    ensures { result ≡ state_number state }
-{
-    match state {
-        State::Committed => 0,
-        State::Pending => 1,
+    if new.len() > bytes.len() {
+        return false;
     }
+    if at > bytes.len() - new.len() {
+        return false;
+    }
+    bytes[at..at + new.len()].copy_from_slice(new);
+    true
 }
 
-// Number and stamp of a version.
-fn put_front(bytes: &mut [u8], at: usize, version: Version)
-    requires { at + 8 ≤ length bytes.old }
-    ensures { bytes.new ≡ pasted bytes.old at (bytes32 version.number ++ bytes32 version.stamp) }
-{
-    put32(bytes, at, version.number);
-    put32(bytes, at + 4, version.stamp);
-}
-
-// Its mark and state.
-fn put_middle(bytes: &mut [u8], at: usize, version: Version)
-    requires { at + 8 ≤ length bytes.old }
-    ensures { bytes.new ≡ pasted bytes.old at (bytes32 version.mark ++ bytes32 (state_number version.state)) }
-{
-    put32(bytes, at, version.mark);
-    put32(bytes, at + 4, number_of(version.state));
-}
-
-fn put_version(bytes: &mut [u8], at: usize, version: Version)
-    requires { at + 24 ≤ length bytes.old }
-    ensures after { bytes.new ≡ pasted bytes.old at (version_bytes version) }
+// The 24 bytes of a version.
+fn version_bytes(version: Version) -> [u8; 24]
+    ensures value { result ≡ version_bytes version }
     ensures fits { VersionFits version }
 {
-    put_front(bytes, at, version);
-    put_middle(bytes, at + 8, version);
-    put64(bytes, at + 16, version.value);
-}
-
-// Versions one behind the other.
-fn put_row(bytes: &mut [u8], start: usize, versions: &[Version])
-    requires { start + 24 * length versions.now ≤ length bytes.old }
-    ensures after { bytes.new ≡ pasted bytes.old start (row_bytes versions.now) }
-    ensures fits { AllByRecursion VersionFits versions.now }
-{
-    for j in 0..versions.len() {
-        put_version(bytes, start + 24 * j, versions[j]);
-    }
+    let mut place = [0; 24];
+    place[0..4].copy_from_slice(&version.number.to_le_bytes());
+    place[4..8].copy_from_slice(&version.stamp.to_le_bytes());
+    place[8..12].copy_from_slice(&version.mark.to_le_bytes());
+    place[12..16].copy_from_slice(&u32::from(version.state).to_le_bytes());
+    place[16..24].copy_from_slice(&version.value.to_le_bytes());
+    place
 }
 
 // Writes a number into four bytes and says yes, or says no where they would not fit, and then no byte has changed.
@@ -76,14 +40,7 @@ pub fn write32(bytes: &mut [u8], at: usize, number: u32) -> bool
     ensures answer { result ≡ has_room bytes.old at (bytes32 number) }
     ensures after { bytes.new ≡ written bytes.old at (bytes32 number) }
 {
-    if bytes.len() < 4 {
-        return false;
-    }
-    if at > bytes.len() - 4 {
-        return false;
-    }
-    put32(bytes, at, number);
-    true
+    write(bytes, at, &number.to_le_bytes())
 }
 
 // Writes versions one behind the other, 24 bytes each, and says yes, or says no where they would not fit, and then no byte has changed.
@@ -98,6 +55,8 @@ pub fn write_row(bytes: &mut [u8], start: usize, versions: &[Version]) -> bool
     if versions.len() > (bytes.len() - start) / 24 {
         return false;
     }
-    put_row(bytes, start, versions);
+    for (j, version) in versions.iter().enumerate() {
+        write(bytes, start + 24 * j, &version_bytes(*version));
+    }
     true
 }

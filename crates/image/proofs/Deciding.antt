@@ -1,50 +1,94 @@
--- Whether an edit of an item is accepted, from what is read of its row. Assumes nothing.
-use Rattle.std.proofs.Common.{◌≡◌, ℕ, ◌+◌, ◌*◌, ◌<◌, ◌≤◌, true, false, List, length, take, sym, ap, ◌∙◌}
-use Rattle.std.proofs.lemmas.List.FromFn.{length-map-range_with_len}
-use Rattle.std.proofs.lemmas.Bool.{and_left, and_right}
-use Rattle.shelves.specs.Edits.{fits, count_after, edited, accepts, places_after}
-use Rattle.shelves.specs.Items.{accepts_in, accepts_at}
+-- The row of an item as it is read, and what an accepted edit of it leaves. Assumes nothing.
+use Rattle.std.proofs.Common.{◌≡◌, ℕ, ◌+◌, ◌*◌, ◌<◌, ◌≤◌, true, false, nat_le, List, ◌++◌, map, length, take, set, Some, None, Option, MatchOption, sym, refl, ap, ap₂, ◌∙◌, subst, inl, inr}
+use Rattle.std.specs.List.{range_with_len, slice_get}
+use Rattle.std.specs.Option.{option_map, unwrap_or}
+use Rattle.std.proofs.ByRecursion.{All-get_or}
+use Rattle.std.proofs.lemmas.List.FromFn.{length-map-range_with_len, take-map-range_with_len, fill_by_all}
+use Rattle.std.proofs.lemmas.Option.{none-some, same_Some, slice_get_within, get_or_from_slice_get, unwrap_or-slice_get}
+use Rattle.std.proofs.lemmas.Bool.{and_from, le-leb, cases_lt, false≢true}
+use Rattle.shelves.specs.Edits.{blank, edited, accepts}
+use Rattle.shelves.specs.Items.{Item, ShelfLaws, row_in, row_of, accepts_in, accepts_at}
+use Rattle.shelves.specs.RowEdits.{versions, makes_row, RowMade}
+use Rattle.shelves.specs.RowsAfter.{versions_edited}
 use Rattle.shelves.specs.Rows.{keeps_rule}
 use Rattle.shelves.specs.declared.edit.Edit.{Edit}
+use Rattle.shelves.specs.declared.row.Row.{Row}
 use Rattle.shelves.specs.declared.version.Version.{Version}
-use Rattle.shelves.specs.Placed.{length_edited, edited_front, too_many, accepts_places}
-use Rattle.image.specs.Decided.{Decided}
-use Rattle.image.specs.Layout.{byte, version_at, item_count, used_at, row_start, item_at, image_items}
+use Rattle.shelves.proofs.Ruled.{rule_decides}
+use Rattle.fields.specs.Fields.{byte, version_at}
+use Rattle.fields.specs.Written.{row_bytes, pasted}
+use Rattle.image.specs.Decided.{EditFits, RowsEdited}
+use Rattle.image.specs.Images.{is_image}
+use Rattle.image.specs.Layout.{item_count, used_at, row_start, item_at, image_items}
+use Rattle.image.specs.Writes.{freed}
 use Rattle.image.specs.Counted.{nth_counted, nth_past_counted}
+use Rattle.image.specs.Shelved.{Written, edit_written}
+
+row_ruled : (items : List Item) (i : ℕ) (it : Item) → ShelfLaws items → slice_get items i ≡ Some it → keeps_rule it.row ≡ true
+row_ruled items i it laws is =
+    subst (λ (x : Item). keeps_rule x.row ≡ true) (get_or_from_slice_get items i it it is)
+    (All-get_or (λ (x : Item). keeps_rule x.row ≡ true) items i it (slice_get_within items i it is) laws.ruled)
+
+-- eight places, of which the first hold a row
+abbrev pub placed : List Version → List Version
+placed vs = map (λ j. unwrap_or (slice_get vs j) blank) (range_with_len 0 8)
+
+placed_front : (vs : List Version) → length vs ≤ 8 → take (length vs) (placed vs) ≡ vs
+placed_front vs few =
+    take-map-range_with_len (λ j. unwrap_or (slice_get vs j) blank) 0 8 (length vs) few
+    ∙ sym (fill_by_all (λ j. unwrap_or (slice_get vs j) blank) vs (length vs) blank refl (λ k h. sym (unwrap_or-slice_get vs k blank)))
+
+-- the row of an item is made of the versions that are looked at, and there is none where there is no item
+made_of : (o : Option Item) → ((it : Item) → o ≡ Some it → keeps_rule it.row ≡ true)
+    → (r : Option Row) → MatchOption r (makes_row (placed (row_in o)) (length (row_in o)) ≡ false) (RowMade (placed (row_in o)) (length (row_in o)))
+    → option_map versions r ≡ option_map (λ it. it.row) o
+made_of None ruled None m = refl
+made_of None ruled (Some r) m = absurd (false≢true m.made)
+made_of (Some it) ruled None m =
+    let few = ((rule_decides it.row).0 (ruled it refl)).few in
+    absurd (false≢true (sym m ∙ and_from (nat_le (length it.row) 8) (keeps_rule (take (length it.row) (placed it.row))) (le-leb (length it.row) 8 few)
+    (ap keeps_rule (placed_front it.row few) ∙ ruled it refl)))
+made_of (Some it) ruled (Some r) m =
+    let few = ((rule_decides it.row).0 (ruled it refl)).few in
+    ap Some (ap₂ take m.count m.places ∙ placed_front it.row few)
+
+pub row_is : (items : List Item) (i : ℕ) → ShelfLaws items → (ps : List Version) → ps ≡ placed (row_of items i) → (n : ℕ) → n ≡ length (row_of items i)
+    → (r : Option Row) → MatchOption r (makes_row ps n ≡ false) (RowMade ps n) → option_map versions r ≡ option_map (λ it. it.row) (slice_get items i)
+row_is items i laws ps p n q r m =
+    made_of (slice_get items i) (λ it is. row_ruled items i it laws is) r (subst (λ vs. MatchOption r (makes_row vs (length (row_of items i)) ≡ false) (RowMade vs (length (row_of items i)))) p
+    (subst (λ k. MatchOption r (makes_row ps k ≡ false) (RowMade ps k)) q m))
 
 module _ (bs : List ℕ) (i : ℕ) (e : Edit) where
-  pub unknown_edit : item_count bs ≤ i → accepts_at (image_items bs) i e ≡ false
-  unknown_edit h = ap (accepts_in e) (nth_past_counted (item_at bs) (item_count bs) i h)
-
   pub known_edit : i < item_count bs → accepts_at (image_items bs) i e ≡ accepts e (item_at bs i).row
   known_edit h = ap (accepts_in e) (nth_counted (item_at bs) (item_count bs) i h)
 
-  pub long_row : length (item_at bs i).row ≡ used_at bs i
+  long_row : length (item_at bs i).row ≡ used_at bs i
   long_row = length-map-range_with_len (λ j. version_at bs (row_start bs i + 24 * j)) 0 (used_at bs i)
 
-  pub unfit_edit : i < item_count bs → fits e (used_at bs i) ≡ false → accepts_at (image_items bs) i e ≡ false
-  unfit_edit h n =
-      known_edit h ∙ and_left (fits e (length (item_at bs i).row)) (keeps_rule (edited e (item_at bs i).row)) (ap (fits e) long_row ∙ n)
+-- the item whose row was read
+pub record ReadRow (bs : List ℕ) (i : ℕ) (r : Row) : Type 0 where
+  pub known : i < item_count bs
+  pub row : versions r ≡ (item_at bs i).row
 
-  pub ninth_edit : i < item_count bs → fits e (used_at bs i) ≡ true → 8 < count_after e (used_at bs i) → accepts_at (image_items bs) i e ≡ false
-  ninth_edit h f l =
-      known_edit h
-      ∙ and_right (fits e (length (item_at bs i).row)) (keeps_rule (edited e (item_at bs i).row))
-      (too_many e (item_at bs i).row (ap (fits e) long_row ∙ f) (rw long_row l))
+pub read_row : (bs : List ℕ) (i : ℕ) (r : Row) → Some (versions r) ≡ option_map (λ it. it.row) (slice_get (image_items bs) i) → ReadRow bs i r
+read_row bs i r is =
+    elim (cases_lt i (item_count bs)) [
+      | inl h ↦ record {
+        known = h;
+        row = same_Some (versions r) (item_at bs i).row (is ∙ ap (option_map (λ it. it.row)) (nth_counted (item_at bs) (item_count bs) i h));
+      }
+      | inr h ↦ absurd (none-some (versions r) (sym (is ∙ ap (option_map (λ it. it.row)) (nth_past_counted (item_at bs) (item_count bs) i h))))
+    ]
 
-  module _ (ps : List Version) (full : length ps ≡ 8) (few : used_at bs i ≤ 8) (read : take (used_at bs i) ps ≡ (item_at bs i).row)
-      (fit : fits e (used_at bs i) ≡ true) (room : count_after e (used_at bs i) ≤ 8) where
-    pub tested_edit : i < item_count bs → accepts_at (image_items bs) i e ≡ keeps_rule (take (count_after e (used_at bs i)) (places_after e ps))
-    tested_edit h = known_edit h ∙ ap (accepts e) (sym read) ∙ accepts_places e ps (used_at bs i) full few fit room
-
-    pub decided_edit : i < item_count bs → keeps_rule (take (count_after e (used_at bs i)) (places_after e ps)) ≡ true
-        → ((k : ℕ) → byte bs k < 256) → Decided bs i e (places_after e ps) (count_after e (used_at bs i))
-    decided_edit h kept small =
-        record {
-          known = h;
-          accepted = ap (accepts e) (sym read) ∙ accepts_places e ps (used_at bs i) full few fit room ∙ kept;
-          count = sym (length_edited e (item_at bs i).row (ap (fits e) long_row ∙ fit) ∙ ap (count_after e) long_row);
-          few = room;
-          row = edited_front e ps (used_at bs i) full few fit room ∙ ap (edited e) read;
-          small = small;
-        }
+-- all bytes after one that it accepts
+pub row_written : (bs : List ℕ) (i : ℕ) (e : Edit) (r s : Row) → RowsEdited bs i e (r, s) → is_image bs ≡ true → EditFits e → ((k : ℕ) → byte bs k < 256)
+    → (before after : List ℕ) (at p n : ℕ) → after ≡ pasted before at (row_bytes (versions s ++ freed (length (versions r)) (length (versions s))))
+    → before ≡ bs → at ≡ row_start bs i → p ≡ 9 + 2 * i → n ≡ length (versions s) → Written bs i e (set after p n)
+row_written bs i e r s x ok fit small before after at p n put is start used_place count =
+    let row : versions s ≡ edited e (item_at bs i).row = versions_edited e r s x.edited ∙ ap (edited e) x.row in
+    let used : length (versions r) ≡ used_at bs i = ap length x.row ∙ long_row bs i e in
+    edit_written bs (set after p n) i e ok x.known (ap (accepts e) (sym x.row) ∙ x.edited.accepted) fit small
+    (ap (λ q. set after q n) used_place
+    ∙ ap₂ (λ xs k. set xs (9 + 2 * i) k)
+    (put ∙ ap₂ (λ xs p. pasted xs p (row_bytes (versions s ++ freed (length (versions r)) (length (versions s))))) is start) count
+    ∙ ap₂ (λ vs k. set (pasted bs (row_start bs i) (row_bytes (vs ++ freed k (length vs)))) (9 + 2 * i) (length vs)) row used)

@@ -1,41 +1,16 @@
--- Rows have no fault exactly where they fit, and the steps of the search for one. Assumes nothing.
-use Rattle.std.proofs.Common.{◌≡◌, ℕ, ◌+◌, ◌-◌, ◌*◌, ◌<◌, ◌≤◌, true, not, ◌&&◌, eqb, ltb, leb, List, [], ◌∷◌, length, get_or, drop, is_ok, Some, None, Decides, Option, refl, ap, ◌∙◌, inl, inr, arith}
+-- Rows have no fault exactly where they fit. Assumes nothing.
+use Rattle.std.proofs.Common.{◌≡◌, ℕ, ◌+◌, ◌*◌, ◌≤◌, true, not, ◌&&◌, eqb, ltb, leb, List, [], ◌∷◌, length, is_ok, Some, None, Decides, Option, refl, ap, arith}
 use Rattle.std.specs.List.{AllByRecursion}
-use Rattle.std.proofs.lemmas.List.{drop_more, drop_all}
-use Rattle.std.proofs.lemmas.Bool.{and_parts, and_from, not-false, not_from_true, leb-true, leb-false, ltb-true, ltb-false, eqb-true, le-leb, lt-leb, lt-ltb, le-ltb, eq-eqb, cases_lt, false≢true}
-use Rattle.shelves.specs.Edits.{blank}
+use Rattle.std.proofs.lemmas.Bool.{and_parts, and_from, not-false, not_from_true, leb-true, leb-false, ltb-true, ltb-false, eqb-true, le-leb, lt-leb, lt-ltb, le-ltb, eq-eqb, false≢true}
 use Rattle.shelves.specs.Items.{Item}
 use Rattle.shelves.specs.Rows.{leads, in_order, any_committed, RowRule}
 use Rattle.shelves.specs.declared.version.Version.{Version}
 use Rattle.shelves.proofs.Ruled.{rule_decides}
 use Rattle.image.specs.Faults.{either, fault_if}
-use Rattle.image.specs.Laid.{next_fault, follows_fault, versions_fault, number_fits, plain_fault, plain_faults, head_fault, rows_fault, Fitting, laid_answer}
+use Rattle.image.specs.Laid.{follows_fault, versions_fault, number_fits, plain_fault, plain_faults, head_fault, rows_fault, Fitting, laid_answer}
 use Rattle.image.specs.Layout.{whole}
 use Rattle.image.proofs.Laying.{Short}
 use Rattle.image.specs.Sound.{either_parts, either_none, passed, passes}
-
--- the step of the search through a row, and its end
-pub versions_more : (vs : List Version) (start j : ℕ) → 1 ≤ j → j < length vs
-    → versions_fault (drop (j - 1) vs) (start + 24 * (j - 1))
-    ≡ either (next_fault (get_or vs (j - 1) blank) (get_or vs j blank) (start + 24 * j)) (versions_fault (drop j vs) (start + 24 * j))
-versions_more vs start j some h =
-    let v : Version = get_or vs (j - 1) blank in
-    let back : j - 1 + 1 ≡ j = omega arith in
-    let on : start + 24 * (j - 1) + 24 ≡ start + 24 * j = omega arith in
-    let here : drop (j - 1) vs ≡ v ∷ drop j vs = drop_more vs (j - 1) blank (omega arith) ∙ ap (λ n. v ∷ drop n vs) back in
-    ap (λ ws. versions_fault ws (start + 24 * (j - 1))) here
-    ∙ ap (λ n. either (follows_fault v (drop j vs) n) (versions_fault (drop j vs) n)) on
-    ∙ ap (λ ws. either (follows_fault v ws (start + 24 * j)) (versions_fault (drop j vs) (start + 24 * j))) (drop_more vs j blank h)
-
-pub versions_end : (vs : List Version) (start j : ℕ) → 1 ≤ j → length vs ≤ j → versions_fault (drop (j - 1) vs) (start + 24 * (j - 1)) ≡ None
-versions_end vs start j some h =
-    elim (cases_lt (j - 1) (length vs)) [
-      | inl l ↦
-          let last : drop (j - 1) vs ≡ get_or vs (j - 1) blank ∷ [] =
-          drop_more vs (j - 1) blank l ∙ ap (λ ws. get_or vs (j - 1) blank ∷ ws) (drop_all (j - 1 + 1) vs (omega arith)) in
-          ap (λ ws. versions_fault ws (start + 24 * (j - 1))) last
-      | inr l ↦ ap (λ ws. versions_fault ws (start + 24 * (j - 1))) (drop_all (j - 1) vs l)
-    ]
 
 -- a row in order
 follows_decides : (v : Version) (vs : List Version) (at : ℕ) → (follows_fault v vs at ≡ None → leads v vs ≡ true) × (leads v vs ≡ true → follows_fault v vs at ≡ None)

@@ -1,5 +1,5 @@
 -- Bytes that were laid out are an image of exactly the items. Assumes nothing.
-use Rattle.std.proofs.Common.{◌≡◌, ℕ, zero, suc, ◌+◌, ◌-◌, ◌*◌, ◌<◌, ◌≤◌, true, List, [], ◌∷◌, ◌++◌, map, length, get_or, replicate, is_ok, Some, None, Ok, Err, Decides, Option, Result, sym, refl, ap, ◌∙◌, subst, ap₂, arith}
+use Rattle.std.proofs.Common.{◌≡◌, ℕ, zero, suc, ◌+◌, ◌-◌, ◌*◌, ◌<◌, ◌≤◌, true, List, [], ◌∷◌, ◌++◌, map, length, get_or, replicate, is_ok, is_err, Some, None, Ok, Err, Decides, Option, Result, sym, refl, ap, ◌∙◌, subst, ap₂, arith}
 use Rattle.std.specs.List.{range_with_len, flat_map, AllByRecursion}
 use Rattle.std.proofs.lemmas.List.FromFn.{fill_by_all}
 use Rattle.std.proofs.ByRecursion.{All-get_or, All-append}
@@ -11,10 +11,12 @@ use Rattle.shelves.specs.Rows.{RowRule}
 use Rattle.shelves.specs.declared.version.Version.{Version}
 use Rattle.image.specs.declared.layout.LayoutFault.{LayoutFault}
 use Rattle.image.specs.Laid.{filled, entry_bytes, places_bytes, head_bytes, laid_out, rows_fault, Fitting, laid_answer, laid_after, LaidOut}
-use Rattle.image.specs.Layout.{byte, field32, version_at, item_count, whole, level_at, used_at, row_start, row_at, item_at, image_items, ItemFits, IsImage}
-use Rattle.image.specs.Writes.{VersionFits, RowFits}
-use Rattle.image.specs.After.{blank_fits}
-use Rattle.image.specs.Decoded.{same32, same_version, row_version, row_state, read_back}
+use Rattle.fields.specs.Fields.{byte, field32, version_at}
+use Rattle.image.specs.Layout.{item_count, whole, level_at, used_at, row_start, row_at, item_at, image_items, ItemFits, IsImage}
+use Rattle.fields.specs.Written.{VersionFits}
+use Rattle.image.specs.Writes.{RowFits}
+use Rattle.fields.proofs.Decoded.{blank_fits}
+use Rattle.fields.proofs.Decoded.{same32, same_version, row_version, row_state, read_back}
 use Rattle.image.proofs.Fits.{rows_parts, short_rows, answer_exact}
 use Rattle.image.proofs.Laying.{Short, length_filled, length_places, length_entries, length_laid}
 
@@ -182,3 +184,16 @@ pub layout_promise : (items : List Item) (before after : List ℕ) (r : Result (
 layout_promise items before after r is bytes fits =
     let promise = by_fault items before (rows_fault items (length before)) refl (λ h. fits (ap is_ok is ∙ h)) in
     subst (λ x. LaidOut items before x after) (sym is) (subst (λ xs. LaidOut items before (laid_answer (rows_fault items (length before))) xs) (sym bytes) promise)
+
+-- a refusal leaves the bytes
+left : (o : Option ℕ) (items : List Item) (before : List ℕ) → is_err (laid_answer o) ≡ true → before ≡ laid_after o items before
+left None items before err = absurd (false≢true err)
+left (Some at) items before err = refl
+
+never_both : (r : Result (Unit {0}) LayoutFault) → is_err r ≡ true → is_ok r ≡ true → ⊥
+never_both (Ok x) err ok = false≢true err
+never_both (Err e) err ok = false≢true ok
+
+pub refused_promise : (items : List Item) (before : List ℕ) (r : Result (Unit {0}) LayoutFault) → r ≡ laid_answer (rows_fault items (length before)) → is_err r ≡ true → LaidOut items before r before
+refused_promise items before r is err =
+    layout_promise items before before r is (left (rows_fault items (length before)) items before (sym (ap is_err is) ∙ err)) (λ ok. absurd (never_both r err ok))

@@ -9,8 +9,9 @@ use Rattle.shelves.specs.Items.{Item}
 use Rattle.shelves.specs.declared.version.Version.{Version}
 use Rattle.image.specs.Laid.{filled, entry_bytes, places_bytes, head_bytes, laid_out, item_written}
 use Rattle.image.specs.Layout.{whole}
-use Rattle.image.specs.Writes.{VersionFits, RowFits, pasted}
-use Rattle.image.specs.Pasted.{length_pasted, before_pasted, in_pasted, behind_pasted, then_pasted, none_pasted, length_row_bytes}
+use Rattle.fields.specs.Written.{VersionFits, pasted}
+use Rattle.image.specs.Writes.{RowFits}
+use Rattle.fields.proofs.Pasted.{length_pasted, before_pasted, in_pasted, behind_pasted, then_pasted, none_pasted, length_row_bytes}
 
 -- pastes that do not meet may change places
 pasted_apart : (bs : List ℕ) (a : ℕ) (xs : List ℕ) (b : ℕ) (ys : List ℕ) → a + length xs ≤ b → b + length ys ≤ length bs

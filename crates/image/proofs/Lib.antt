@@ -1,7 +1,11 @@
-mod Copied
+mod Numbered
+mod Chunks
 mod Deciding
 mod Filled
 mod Fits
+mod Found
+mod Freed
 mod Laid
 mod Laying
-mod Plain
+mod Pairs
+mod Tried

@@ -14,12 +14,14 @@ use Rattle.shelves.specs.declared.edit.Edit.TheVariants.{Put, Insert, Remove}
 use Rattle.shelves.specs.declared.version.Version.{Version}
 use Rattle.shelves.proofs.Ruled.{rule_decides}
 use Rattle.image.specs.Decided.{EditFits}
-use Rattle.image.specs.Layout.{byte, field32, version_at, item_count, whole, level_at, used_at, row_start, row_at, item_at, image_items, ItemFits, IsImage}
-use Rattle.image.specs.Writes.{VersionFits, row_bytes, pasted, freed, bytes_after}
+use Rattle.fields.specs.Fields.{byte, field32, version_at}
+use Rattle.image.specs.Layout.{item_count, whole, level_at, used_at, row_start, row_at, item_at, image_items, ItemFits, IsImage}
+use Rattle.fields.specs.Written.{VersionFits, row_bytes, pasted}
+use Rattle.image.specs.Writes.{freed, bytes_after}
 use Rattle.image.specs.Counted.{nth_counted}
-use Rattle.image.specs.Decoded.{same32, same_version, row_version, row_state, read_fits}
+use Rattle.fields.proofs.Decoded.{same32, same_version, row_version, row_state, read_fits, blank_fits}
 use Rattle.image.specs.Known.{few_used}
-use Rattle.image.specs.Pasted.{length_pasted, before_pasted, in_pasted, behind_pasted, length_row_bytes}
+use Rattle.fields.proofs.Pasted.{length_pasted, before_pasted, in_pasted, behind_pasted, length_row_bytes}
 
 -- lists that are made by number
 same_counted : {X : Type 0} (f g : ℕ → X) (a n : ℕ) → ((j : ℕ) → j < a + n → f j ≡ g j) → map f (range_with_len a n) ≡ map g (range_with_len a n)
@@ -35,9 +37,6 @@ edited_fits : (e : Edit) (vs : List Version) → EditFits e → AllByRecursion V
 edited_fits (Put p v) vs f a = All-set VersionFits vs p v f a
 edited_fits (Insert p v) vs f a = All-append VersionFits _ _ (All-take VersionFits p vs a) (f, All-drop VersionFits p vs a)
 edited_fits (Remove p) vs f a = All-append VersionFits _ _ (All-take VersionFits p vs a) (All-drop VersionFits (suc p) vs a)
-
-pub blank_fits : VersionFits blank
-blank_fits = record { number = omega arith; stamp = omega arith; mark = omega arith; value = omega arith }
 
 -- at most one place is freed
 freed_fits : (n m : ℕ) → n ≤ 8 → m ≤ 8 → (m + length (freed n m) ≤ 8) × AllByRecursion VersionFits (freed n m)

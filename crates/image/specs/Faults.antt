@@ -1,7 +1,8 @@
 -- The first faulty field of bytes that are no image. Assumes nothing.
 use Rattle.std.specs.Prelude.{ℕ, zero, suc, ◌+◌, ◌-◌, ◌*◌, Bool, cond, not, ◌&&◌, List, length, Some, None, Option, ◌==◌, nat_le, nat_lt}
 use Rattle.shelves.specs.Rows.{any_committed}
-use Rattle.image.specs.Layout.{field32, item_count, whole, level_at, used_at, row_start, row_at}
+use Rattle.fields.specs.Fields.{field32}
+use Rattle.image.specs.Layout.{item_count, whole, level_at, used_at, row_start, row_at}
 
 -- the first of two faults
 abbrev pub either : Option ℕ → Option ℕ → Option ℕ

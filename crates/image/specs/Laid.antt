@@ -9,7 +9,7 @@ use Rattle.image.specs.declared.layout.LayoutFault.{LayoutFault}
 use Rattle.image.specs.declared.layout.PlainRow.{PlainRow}
 use Rattle.image.specs.Faults.{either, fault_if}
 use Rattle.image.specs.Layout.{whole, image_items, IsImage}
-use Rattle.image.specs.Writes.{bytes32, row_bytes, pasted}
+use Rattle.fields.specs.Written.{bytes32, row_bytes, pasted}
 
 -- what a plain row means
 abbrev pub plain_item : PlainRow → Item

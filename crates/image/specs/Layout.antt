@@ -1,35 +1,11 @@
 -- How items stand in bytes: little-endian, an 8-byte head, two bytes for each item, then eight places of 24 bytes for
 -- each item. Assumes nothing.
-use Rattle.std.specs.Prelude.{◌≡◌, ℕ, ◌+◌, ◌*◌, ◌<◌, ◌≤◌, cond, List, map, length, ◌==◌, slice_index}
+use Rattle.std.specs.Prelude.{◌≡◌, ℕ, ◌+◌, ◌*◌, ◌<◌, ◌≤◌, List, map, length}
 use Rattle.std.specs.List.{range_with_len}
 use Rattle.shelves.specs.Items.{Item}
 use Rattle.shelves.specs.Rows.{RowRule}
-use Rattle.shelves.specs.declared.version.State.{State}
-use Rattle.shelves.specs.declared.version.State.TheVariants.{Committed, Pending}
 use Rattle.shelves.specs.declared.version.Version.{Version}
-
-abbrev pub byte : List ℕ → ℕ → ℕ
-byte bs at = slice_index bs at
-
-abbrev pub field32 : List ℕ → ℕ → ℕ
-field32 bs at = byte bs at + (256 * byte bs (at + 1) + (65536 * byte bs (at + 2) + 16777216 * byte bs (at + 3)))
-
-abbrev pub field64 : List ℕ → ℕ → ℕ
-field64 bs at = field32 bs at + 4294967296 * field32 bs (at + 4)
-
--- 0 stands for committed, any other number for pending
-abbrev pub state_of : ℕ → State
-state_of x = cond (x == 0) Committed Pending
-
--- number, stamp, mark and state in four bytes each, the value in eight
-abbrev pub version_at : List ℕ → ℕ → Version
-version_at bs at = record {
-  number = field32 bs at;
-  stamp = field32 bs (at + 4);
-  mark = field32 bs (at + 8);
-  state = state_of (field32 bs (at + 12));
-  value = field64 bs (at + 16);
-}
+use Rattle.fields.specs.Fields.{byte, field32, version_at}
 
 abbrev pub item_count : List ℕ → ℕ
 item_count bs = field32 bs 0

@@ -8,7 +8,5 @@ pub mod Writes
 pub mod Shelved
 pub mod After
 pub mod Counted
-pub mod Decoded
 pub mod Known
 pub mod Sound
-pub mod Pasted

@@ -3,12 +3,13 @@ use Rattle.std.specs.Prelude.{◌≡◌, ℕ, ◌<◌, true, List, length, slice
 use Rattle.std.proofs.Common.{sym, ap, subst, ◌∙◌, arith}
 use Rattle.std.proofs.lemmas.List.FromFn.{get_or-map-range_with_len}
 use Rattle.std.proofs.ByRecursion.{All-from_get_or}
+use Rattle.shelves.specs.Edits.{accepts}
 use Rattle.shelves.specs.Items.{Item, ShelfLaws, items_after}
 use Rattle.shelves.specs.Rows.{keeps_rule}
 use Rattle.shelves.specs.declared.edit.Edit.{Edit}
 use Rattle.shelves.proofs.Ruled.{rule_decides}
-use Rattle.shelves.specs.declared.version.Version.{Version}
-use Rattle.image.specs.Decided.{Decided, EditFits, BytesEdited}
+use Rattle.fields.specs.Fields.{byte}
+use Rattle.image.specs.Decided.{EditFits, BytesEdited}
 use Rattle.image.specs.Images.{is_image}
 use Rattle.image.specs.Layout.{item_count, item_at, image_items, IsImage}
 use Rattle.image.specs.Writes.{bytes_after}
@@ -40,9 +41,9 @@ pub record Written (bs : List ℕ) (i : ℕ) (e : Edit) (ws : List ℕ) : Type 0
   pub edited : BytesEdited bs i e ws
   pub same_length : length ws ≡ length bs
 
-pub edit_written : (bs ws : List ℕ) (i : ℕ) (e : Edit) (ps : List Version) (n : ℕ) → is_image bs ≡ true → Decided bs i e ps n → EditFits e
-    → ws ≡ bytes_after bs i e → Written bs i e ws
-edit_written bs ws i e ps n ok d fit is = record {
-  edited = record { known = d.known; accepted = d.accepted; fits = fit; small = d.small; bytes = is };
-  same_length = ap length is ∙ same_length bs i e (image_ok bs ok) d.known d.accepted fit d.small;
+pub edit_written : (bs ws : List ℕ) (i : ℕ) (e : Edit) → is_image bs ≡ true → i < item_count bs → accepts e (item_at bs i).row ≡ true → EditFits e
+    → ((k : ℕ) → byte bs k < 256) → ws ≡ bytes_after bs i e → Written bs i e ws
+edit_written bs ws i e ok known accepted fit small is = record {
+  edited = record { known = known; accepted = accepted; fits = fit; small = small; bytes = is };
+  same_length = ap length is ∙ same_length bs i e (image_ok bs ok) known accepted fit small;
 }

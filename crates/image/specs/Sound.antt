@@ -10,7 +10,8 @@ use Rattle.shelves.specs.declared.version.Version.{Version}
 use Rattle.shelves.proofs.Ruled.{rule_decides}
 use Rattle.image.specs.Counted.{nth_counted}
 use Rattle.image.specs.Faults.{either, fault_if, first, version_fault, used_fits, item_fault, count_fits, length_fits, fault}
-use Rattle.image.specs.Layout.{field32, version_at, item_count, whole, level_at, used_at, row_start, row_at, ItemFits, IsImage}
+use Rattle.fields.specs.Fields.{field32, version_at}
+use Rattle.image.specs.Layout.{item_count, whole, level_at, used_at, row_start, row_at, ItemFits, IsImage}
 
 -- no fault in a chain of tests
 pub either_parts : (x y : Option ℕ) → either x y ≡ None → (x ≡ None) × (y ≡ None)

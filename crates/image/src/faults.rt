@@ -1,10 +1,13 @@
 // The first faulty field of bytes that are no image.
-ghost use Rattle.std.specs.Prelude.{◌≡◌, ◌+◌, ◌*◌, ◌<◌, ◌≤◌, true, length, None};
-ghost use Rattle.shelves.specs.Rows.{any_committed};
-ghost use Rattle.image.specs.Faults.{first, version_fault, item_fault, fault, count_fits, length_fits};
-ghost use Rattle.image.specs.Layout.{item_count, whole, row_at, IsImage};
+ghost use Rattle.std.specs.Prelude.{◌≡◌, ◌<◌, length, None};
+ghost use Rattle.image.specs.Faults.{first, item_fault, fault, count_fits, length_fits};
+ghost use Rattle.image.specs.Layout.{item_count, whole, IsImage};
 
-use crate::field::read32;
+use crate::faults::places::Places;
+use crate::offsets;
+use fields::read32;
+
+mod places;
 
 // The offset of the first faulty field, or nothing exactly if the bytes are an image.
 pub fn fault(bytes: &[u8]) -> Option<usize>
@@ -15,6 +18,7 @@ pub fn fault(bytes: &[u8]) -> Option<usize>
     first_fault(bytes)
 }
 
+// The value alone; `fault` says of it what it means that there is none.
 fn first_fault(bytes: &[u8]) -> Option<usize>
     ensures { result ≡ fault bytes.now }
 {
@@ -24,102 +28,57 @@ fn first_fault(bytes: &[u8]) -> Option<usize>
     if !length_fits(bytes) {
         return Some(4);
     }
-    items_fault(bytes)
+    Whole { bytes }.items_fault()
 }
 
 fn count_fits(bytes: &[u8]) -> bool
     ensures { result ≡ count_fits bytes.now }
 {
-    if bytes.len() < 8 {
-        return false;
-    }
-    let count = read32(bytes, 0);
-    count >= 1 && count <= 4096
+    bytes.len() >= 8 && (1..=4096).contains(&read32(bytes, 0))
 }
 
 fn length_fits(bytes: &[u8]) -> bool
-    requires { count_fits bytes.now ≡ true }
     ensures { result ≡ length_fits bytes.now }
 {
-    let whole = 8 + 194 * read32(bytes, 0);
-    read32(bytes, 4) == whole && bytes.len() == whole as usize
+    let whole = offsets::whole(read32(bytes, 0));
+    read32(bytes, 4) as usize == whole && bytes.len() == whole
 }
 
-fn version_fault(bytes: &[u8], start: usize, j: usize) -> Option<usize>
-    requires { start + 24 * j + 24 ≤ length bytes.now }
-    ensures { result ≡ version_fault bytes.now start j }
-{
-    let at = start + 24 * j;
-    if read32(bytes, at + 12) > 1 {
-        return Some(at + 12);
-    }
-    if j == 0 {
-        return None;
-    }
-    let before = start + 24 * (j - 1);
-    if read32(bytes, at) <= read32(bytes, before) {
-        return Some(at);
-    }
-    if read32(bytes, at + 4) < read32(bytes, before + 4) {
-        return Some(at + 4);
-    }
-    None
+// Bytes as long as the number of their items asks.
+#[derive(Drop)]
+struct Whole<'a> {
+    bytes: &'a [u8],
+    ghost exact: { length bytes.now ≡ whole (item_count bytes.now) },
 }
 
-fn versions_fault(bytes: &[u8], start: usize, used: usize) -> Option<usize>
-    requires { start + 24 * used ≤ length bytes.now }
-    ensures { result ≡ first (version_fault bytes.now start) 0 used }
-{
-    for j in 0..used {
-        match version_fault(bytes, start, j) {
-            Some(at) => return Some(at),
-            None => {}
+impl Whole<'_> {
+    // The level of an item, its number of versions, then its versions.
+    fn item_fault(&self, item: u32) -> Option<usize>
+        requires { item < item_count self.now.bytes.now }
+        ensures { result ≡ item_fault self.now.bytes.now item }
+    {
+        if self.bytes[offsets::level(item)] > 15 {
+            return Some(offsets::level(item));
         }
-    }
-    None
-}
-
-fn any_committed(bytes: &[u8], start: usize, used: usize) -> bool
-    requires { start + 24 * used ≤ length bytes.now }
-    ensures { result ≡ any_committed (row_at bytes.now start used) }
-{
-    for j in 0..used {
-        if read32(bytes, start + 24 * j + 12) == 0 {
-            return true;
+        let used = self.bytes[offsets::used(item)] as usize;
+        if !(1..=8).contains(&used) {
+            return Some(offsets::used(item));
         }
-    }
-    false
-}
-
-fn item_fault(bytes: &[u8], i: usize) -> Option<usize>
-    requires whole { length bytes.now ≡ whole (item_count bytes.now) }
-    requires known { i < item_count bytes.now }
-    ensures { result ≡ item_fault bytes.now i }
-{
-    if bytes[8 + 2 * i] > 15 {
-        return Some(8 + 2 * i);
-    }
-    let start = 8 + 2 * read32(bytes, 0) as usize + 192 * i;
-    let used = bytes[9 + 2 * i] as usize;
-    if used < 1 || used > 8 {
-        return Some(9 + 2 * i);
-    }
-    if !any_committed(bytes, start, used) {
-        return Some(9 + 2 * i);
-    }
-    versions_fault(bytes, start, used)
-}
-
-fn items_fault(bytes: &[u8]) -> Option<usize>
-    requires { length bytes.now ≡ whole (item_count bytes.now) }
-    ensures { result ≡ first (item_fault bytes.now) 0 (item_count bytes.now) }
-{
-    let count = read32(bytes, 0) as usize;
-    for i in 0..count {
-        match item_fault(bytes, i) {
-            Some(at) => return Some(at),
-            None => {}
+        let start = offsets::row_start(read32(self.bytes, 0), item);
+        let places = Places {
+            bytes: self.bytes,
+            start,
+            used,
+        };
+        if !places.any_committed() {
+            return Some(offsets::used(item));
         }
+        places.fault()
     }
-    None
+
+    fn items_fault(&self) -> Option<usize>
+        ensures { result ≡ first (item_fault self.now.bytes.now) 0 (item_count self.now.bytes.now) }
+    {
+        (0..read32(self.bytes, 0)).find_map(|item| self.item_fault(item))
+    }
 }

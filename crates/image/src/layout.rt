@@ -2,11 +2,15 @@
 ghost use Rattle.std.specs.Prelude.{◌≡◌};
 
 use shelves::Version;
+use thiserror::Error;
 
+mod all;
 mod copy;
 mod decide;
+mod fitting;
 mod item;
 mod plain;
+mod rows;
 
 pub use copy::lay_out_shelf;
 pub use plain::lay_out;
@@ -19,16 +23,17 @@ pub struct PlainRow<'a> {
 }
 
 // What would be no image: the offset of its first faulty field.
-#[derive(Clone, Copy, PartialEq, Eq, Debug)]
+#[derive(Clone, Copy, PartialEq, Eq, Debug, Error)]
+#[error("no image: the field at byte {offset} would be faulty")]
 pub struct LayoutFault {
     pub offset: usize,
 }
 
-impl LayoutFault {
-    // The number of this refusal.
-    pub fn number(self) -> u8
-        ensures { result ≡ 3 }
-    {
+// The number of this refusal.
+impl From<LayoutFault> for u8 {
+    ghost from_gives = { λ _ number. number ≡ 3 };
+
+    fn from(_fault: LayoutFault) -> u8 {
         3
     }
 }

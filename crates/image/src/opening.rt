@@ -2,7 +2,10 @@
 ghost use Rattle.std.specs.Prelude.{◌≡◌, true};
 ghost use Rattle.image.specs.Images.{is_image};
 
+use thiserror::Error;
+
 mod bytes;
+mod edits;
 mod shelf;
 
 #[derive(Drop)]
@@ -12,7 +15,8 @@ pub struct Image {
 }
 
 // Bytes that are no image, with the offset of their first faulty field.
-#[derive(Drop)]
+#[derive(Debug, Drop, Error)]
+#[error("no image: the field at byte {offset} is faulty")]
 pub struct NotImage {
     pub offset: usize,
     pub bytes: Vec<u8>,

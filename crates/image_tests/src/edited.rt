@@ -17,22 +17,20 @@ fn version(number: u32, stamp: u32) -> Version {
 
 #[test]
 fn damaged_bytes_come_back(rt: HostRuntime) -> Result<(), Fail> {
-    match Image::open(sample(rt.alloc(), 9, 0)?) {
-        Ok(_) => Err(Fail::new("opened")),
-        Err(refused) => {
-            assert_eq!(rt; refused.offset, 9);
-            assert_eq!(rt; refused.number(), 3);
-            assert_eq!(rt; refused.bytes.len(), 396);
-            Ok(())
-        }
-    }
+    let opened = Image::open(sample(rt.alloc(), 9, 0)?);
+    let refused = opened.err().ok_or("opened")?;
+    assert_eq!(rt; refused.offset, 9);
+    assert_eq!(rt; u8::from(&refused), 3);
+    assert_eq!(rt; refused.bytes.len(), 396);
+    assert_eq!(rt;
+        format!(in rt.alloc(); "{refused}")?.as_str(),
+        "no image: the field at byte 9 is faulty"
+    );
+    Ok(())
 }
 
 fn opened(rt: &HostRuntime) -> Result<Image, Fail> {
-    match Image::open(sample(rt.alloc(), 4, 140)?) {
-        Ok(image) => Ok(image),
-        Err(_) => Err(Fail::new("not opened")),
-    }
+    Ok(Image::open(sample(rt.alloc(), 4, 140)?)?)
 }
 
 #[test]
@@ -118,11 +116,7 @@ fn an_image_answers_as_a_drawer(rt: HostRuntime) -> Result<(), Fail> {
     bytes[0] = 1;
     bytes[4] = 202;
     bytes[9] = 1;
-    match Image::open(bytes) {
-        Ok(mut image) => {
-            assert!(rt; answers(&mut image) == answers(&mut drawer));
-            Ok(())
-        },
-        Err(_) => Err(Fail::new("not opened")),
-    }
+    let mut image = Image::open(bytes)?;
+    assert!(rt; answers(&mut image) == answers(&mut drawer));
+    Ok(())
 }

@@ -32,8 +32,8 @@ fn has_row<S: Shelf>(
 ) -> Result<(), Fail> {
     assert_eq!(rt; shelf.level(item), level);
     assert_eq!(rt; shelf.versions(item), versions.len());
-    for j in 0..versions.len() {
-        assert_eq!(rt; shelf.look(item, j), Some(versions[j]));
+    for (place, version) in versions.iter().enumerate() {
+        assert_eq!(rt; shelf.look(item, place), Some(*version));
     }
     Ok(())
 }
@@ -73,14 +73,10 @@ fn rows_come_back(rt: HostRuntime) -> Result<(), Fail> {
     assert!(rt; lay_two(&one, 15, &eight, bytes.as_mut_slice()).is_ok());
     assert_eq!(rt; bytes.get(12 + 24).copied(), Some(0));
     assert_eq!(rt; bytes.get(203).copied(), Some(0));
-    match Image::open(bytes) {
-        Ok(image) => {
-            assert_eq!(rt; image.count(), 2);
-            has_row(&rt, &image, 0, 0, &one)?;
-            has_row(&rt, &image, 1, 15, &eight)
-        }
-        Err(_) => Err(Fail::new("not opened")),
-    }
+    let image = Image::open(bytes)?;
+    assert_eq!(rt; image.count(), 2);
+    has_row(&rt, &image, 0, 0, &one)?;
+    has_row(&rt, &image, 1, 15, &eight)
 }
 
 // As many items as are asked for, all alike.
@@ -92,13 +88,11 @@ fn laid(rt: &(impl Abort + AllocGlobal), count: usize) -> Result<Option<LayoutFa
     };
     let rows = vec![in rt.alloc(); row; count]?;
     let mut bytes = vec![in rt.alloc(); 1u8; 8 + 194 * count]?;
-    match lay_out(rows.as_slice(), bytes.as_mut_slice()) {
-        Ok(()) => {
-            assert_eq!(rt; fault(bytes.as_slice()), None);
-            Ok(None)
-        }
-        Err(refused) => Ok(Some(refused)),
+    let refused = lay_out(rows.as_slice(), bytes.as_mut_slice()).err();
+    if refused.is_none() {
+        assert_eq!(rt; fault(bytes.as_slice()), None);
     }
+    Ok(refused)
 }
 
 #[test]
@@ -120,20 +114,13 @@ fn try_row(
     expected: Option<usize>,
 ) -> Result<(), Fail> {
     let mut bytes = vec![in rt.alloc(); 7u8; length]?;
-    match lay_two(&[committed(0, 0)], level, versions, bytes.as_mut_slice()) {
-        Ok(()) => {
-            assert_eq!(rt; expected, None, "{case}");
-            Ok(())
-        }
-        Err(refused) => {
-            assert_eq!(rt; expected, Some(refused.offset), "{case}");
-            assert_eq!(rt; refused.number(), 3, "{case}");
-            for byte in bytes.as_slice() {
-                assert_eq!(rt; *byte, 7, "{case}");
-            }
-            Ok(())
-        }
+    let refused = lay_two(&[committed(0, 0)], level, versions, bytes.as_mut_slice()).err();
+    assert_eq!(rt; refused.map(|fault| fault.offset), expected, "{case}");
+    if let Some(fault) = refused {
+        assert_eq!(rt; u8::from(fault), 3, "{case}");
+        assert!(rt; bytes.iter().all(|byte| *byte == 7), "{case}");
     }
+    Ok(())
 }
 
 #[test]
@@ -196,18 +183,15 @@ fn a_drawer_becomes_an_image(rt: HostRuntime) -> Result<(), Fail> {
     assert!(rt; drawer.insert(1, 1, pending(3, 4)));
     let mut bytes = vec![in rt.alloc(); 255u8; 396]?;
     assert!(rt; lay_out_shelf(&drawer, bytes.as_mut_slice()).is_ok());
-    match Image::open(bytes) {
-        Ok(image) => {
-            for item in 0..2 {
-                assert_eq!(rt; image.level(item), drawer.level(item));
-                assert_eq!(rt; image.versions(item), drawer.versions(item));
-                assert_eq!(rt; image.look(item, 0), drawer.look(item, 0));
-                assert_eq!(rt; image.look(item, 1), drawer.look(item, 1));
-            }
-            Ok(())
-        }
-        Err(_) => Err(Fail::new("not opened")),
+    let image = Image::open(bytes)?;
+    // Both shelves are asked by number.
+    for item in 0..2 {
+        assert_eq!(rt; image.level(item), drawer.level(item));
+        assert_eq!(rt; image.versions(item), drawer.versions(item));
+        assert_eq!(rt; image.look(item, 0), drawer.look(item, 0));
+        assert_eq!(rt; image.look(item, 1), drawer.look(item, 1));
     }
+    Ok(())
 }
 
 #[test]
@@ -222,6 +206,17 @@ fn a_drawer_may_have_a_level_that_images_have_not(rt: HostRuntime) -> Result<(),
     assert_eq!(rt;
         lay_out_shelf(&drawer, bytes.as_mut_slice()).err(),
         Some(LayoutFault { offset: 8 })
+    );
+    Ok(())
+}
+
+#[test]
+fn a_fault_tells_its_offset(rt: HostRuntime) -> Result<(), Fail> {
+    let fault = LayoutFault { offset: 228 };
+    let text = format!(in rt.alloc(); "{fault}")?;
+    assert_eq!(rt;
+        text.as_str(),
+        "no image: the field at byte 228 would be faulty"
     );
     Ok(())
 }

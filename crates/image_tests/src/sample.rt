@@ -8,12 +8,6 @@ pub const FIRST: usize = 12;
 
 pub const SECOND: usize = 204;
 
-fn put32(bytes: &mut [u8], at: usize, number: u8) {
-    if at < bytes.len() {
-        bytes[at] = number;
-    }
-}
-
 // The sample with one byte changed.
 pub fn sample(heap: Global, at: usize, byte: u8) -> Result<Vec<u8>, AllocError> {
     let mut bytes = vec![in heap; 0; LENGTH]?;
@@ -35,7 +29,9 @@ pub fn sample(heap: Global, at: usize, byte: u8) -> Result<Vec<u8>, AllocError> 
         (at, byte),
     ];
     for (at, byte) in fields {
-        put32(bytes.as_mut_slice(), at, byte);
+        if let Some(place) = bytes.get_mut(at) {
+            *place = byte;
+        }
     }
     Ok(bytes)
 }

@@ -1,52 +1,37 @@
-// One item written into bytes.
+// The head and one item written into bytes.
 ghost use Rattle.std.specs.Prelude.{◌≡◌, ◌<◌, ◌≤◌, length};
 ghost use Rattle.std.specs.List.{AllByRecursion};
-ghost use Rattle.image.specs.Laid.{filled, head_bytes, with_item};
+ghost use Rattle.fields.specs.Written.{VersionFits, pasted};
+ghost use Rattle.shelves.specs.Items.{row_of};
+ghost use Rattle.image.specs.Laid.{filled, head_bytes, item_of, item_written};
 ghost use Rattle.image.specs.Layout.{whole};
-ghost use Rattle.image.specs.Writes.{VersionFits, pasted};
 
-use crate::write::{write_row, write32};
-use shelves::{BLANK, Version};
+use crate::layout::fitting::Fitting;
+use crate::layout::rows::{Rows, places};
+use crate::offsets;
+use fields::{write_row, write32};
 
-// How many items, and how many bytes.
-pub(super) fn write_head(bytes: &mut [u8], count: u32)
-    requires few { count ≤ 4096 }
-    requires all { length bytes.old ≡ whole count }
-    ensures { bytes.new ≡ pasted bytes.old 0 (head_bytes count) }
-{
-    write32(bytes, 0, count);
-    write32(bytes, 4, 8 + 194 * count);
-}
-
-// Eight places: a row, then zeros.
-pub(super) fn fill_places(versions: &[Version]) -> [Version; 8]
-    requires { length versions.now ≤ 8 }
-    ensures { result ≡ filled versions.now }
-{
-    let mut places = [BLANK; 8];
-    for j in 0..versions.len() {
-        places[j] = versions[j];
+impl<R: Rows> Fitting<'_, R> {
+    // How many items, and how many bytes.
+    pub(super) fn write_head(&self, bytes: &mut [u8])
+        requires { length bytes.old ≡ whole (length (R.items self.now.rows.now)) }
+        ensures { bytes.new ≡ pasted bytes.old 0 (head_bytes (length (R.items self.now.rows.now))) }
+    {
+        write32(bytes, 0, self.count());
+        write32(bytes, 4, offsets::whole(self.count()) as u32);
     }
-    places
-}
 
-// The level of item `i` of `count`, its number of versions and its places.
-pub(super) fn write_item(
-    bytes: &mut [u8],
-    count: usize,
-    i: usize,
-    level: u8,
-    used: usize,
-    places: &[Version; 8],
-)
-    requires few { count ≤ 4096 }
-    requires all { length bytes.old ≡ whole count }
-    requires known { i < count }
-    requires used { used ≤ 8 }
-    ensures after { bytes.new ≡ with_item bytes.old count i level used places.now }
-    ensures fits { AllByRecursion VersionFits places.now }
-{
-    bytes[8 + 2 * i] = level;
-    bytes[9 + 2 * i] = used as u8;
-    write_row(bytes, 8 + 2 * count + 192 * i, places);
+    // An item's level, its number of versions and its places.
+    pub(super) fn write_item(&self, item: u32, bytes: &mut [u8])
+        requires known { item < length (R.items self.now.rows.now) }
+        requires all { length bytes.old ≡ whole (length (R.items self.now.rows.now)) }
+        requires short { length (row_of (R.items self.now.rows.now) item) ≤ 8 }
+        ensures after { bytes.new ≡ item_written bytes.old (length (R.items self.now.rows.now)) item (item_of (R.items self.now.rows.now) item) }
+        ensures fits { AllByRecursion VersionFits (filled (row_of (R.items self.now.rows.now) item)) }
+    {
+        bytes[offsets::level(item)] = self.rows.level(item);
+        bytes[offsets::used(item)] = self.rows.versions(item) as u8;
+        let start = offsets::row_start(self.count(), item);
+        write_row(bytes, start, &places(self.rows, item));
+    }
 }

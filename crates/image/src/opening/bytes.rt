@@ -11,6 +11,7 @@ impl Image {
     pub fn open(bytes: Vec<u8>) -> Result<Image, NotImage>
         ensures { Opens bytes.items result }
     {
+        // A match, since either answer takes the bytes.
         match fault(bytes.as_slice()) {
             Some(offset) => Err(NotImage { offset, bytes }),
             None => Ok(Image { bytes }),
@@ -28,16 +29,15 @@ impl Image {
     pub fn into_bytes(self) -> Vec<u8>
         ensures { result.items ≡ bytes_of self }
     {
-        let Image { bytes } = self;
-        bytes
+        self.bytes
     }
 }
 
-impl NotImage {
-    // The number of this refusal.
-    pub fn number(&self) -> u8
-        ensures { result ≡ 3 }
-    {
+// The number of this refusal.
+impl From<&NotImage> for u8 {
+    ghost from_gives = { λ _ number. number ≡ 3 };
+
+    fn from(_refusal: &NotImage) -> u8 {
         3
     }
 }

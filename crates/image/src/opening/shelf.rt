@@ -1,32 +1,33 @@
 // An image as a shelf.
-ghost use Rattle.std.specs.Prelude.{◌≡◌, true, false};
-ghost use Rattle.shelves.specs.Items.{accepts_at, items_after};
-ghost use Rattle.image.specs.Decided.{EditFits};
-ghost use Rattle.image.specs.Opened.{items_of, ImageEdited};
+ghost use Rattle.std.specs.Prelude.{◌≡◌, length};
+ghost use Rattle.shelves.specs.Items.{level_of, row_of};
+ghost use Rattle.image.specs.Layout.{row_start};
+ghost use Rattle.image.specs.Opened.{bytes_of, items_of, ImageEdited};
 ghost use Rattle.image.specs.Shelved.{image_lawful, image_traced};
 
-use crate::edits::{decide, write_edit};
-use crate::items::{count_items, level_of, look_at, versions_of};
+use crate::offsets;
 use crate::opening::Image;
+use fields::{read_version, read32};
 use shelves::{Edit, Shelf, Version};
 
 impl Image {
-    fn edit(&mut self, item: u32, edit: Edit) -> bool
-        requires { EditFits edit }
-        ensures answer { result ≡ accepts_at (items_of self.old) item edit }
-        ensures after { items_of self.new ≡ items_after (items_of self.old) item edit }
-        ensures refused { result ≡ false → self.new ≡ self.old }
-        ensures step { result ≡ true → ImageEdited self.old item edit self.new }
+    // Where an item's first place begins.
+    pub(super) fn start(&self, item: u32) -> usize
+        ensures { result ≡ row_start (bytes_of self.now) item }
     {
-        match decide(self.as_slice(), item, edit) {
-            None => false,
-            Some(next) => {
-                let places = next.places;
-                let count = next.count;
-                write_edit(self.bytes.as_mut_slice(), item, edit, &places[0..count]);
-                true
-            }
+        offsets::row_start(self.count(), item)
+    }
+
+    // The level of an item and the number of its versions; zeros for an unknown one.
+    fn head(&self, item: u32) -> (u8, u8)
+        ensures level { result.0 ≡ level_of (items_of self.now) item }
+        ensures versions { result.1 ≡ length (row_of (items_of self.now) item) }
+    {
+        if item >= self.count() {
+            return (0, 0);
         }
+        let bytes = self.as_slice();
+        (bytes[offsets::level(item)], bytes[offsets::used(item)])
     }
 }
 
@@ -40,19 +41,22 @@ impl Shelf for Image {
     ghost traced = { λ m n i e x. image_traced m.bytes.items n.bytes.items i e m.ok x };
 
     fn count(&self) -> u32 {
-        count_items(self.as_slice())
+        read32(self.as_slice(), 0)
     }
 
     fn level(&self, item: u32) -> u8 {
-        level_of(self.as_slice(), item)
+        self.head(item).0
     }
 
     fn versions(&self, item: u32) -> usize {
-        versions_of(self.as_slice(), item)
+        self.head(item).1 as usize
     }
 
     fn look(&self, item: u32, place: usize) -> Option<Version> {
-        look_at(self.as_slice(), item, place)
+        if place >= self.versions(item) {
+            return None;
+        }
+        Some(read_version(self.as_slice(), self.start(item) + 24 * place))
     }
 
     fn put(&mut self, item: u32, place: usize, version: Version) -> bool {

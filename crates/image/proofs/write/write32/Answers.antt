@@ -1,8 +1,0 @@
-use Rattle.std.proofs.Common.{◌/◌, ◌%◌}
-use Rattle.image.specs.Pasted.{four_sets}
-use Rattle.image.proofs.write.write32.Goals as goal
-
-pub returns : goal.returns
-returns c =
-    let x = c.args.number in
-    four_sets c.args.bytes.now c.args.at (x % 256) (x / 256 % 256) (x / 256 / 256 % 256) (x / 256 / 256 / 256 % 256) c.requires
