@@ -1,11 +1,11 @@
 -- The laws of the rules, of a run whatever was sent before it. Assumes nothing.
 use Rattle.std.proofs.Common.{◌≡◌, List, ◌++◌, sym, ap, ◌∙◌, subst}
+use Rattle.rules.specs.Answers.{Answer}
 use Rattle.rules.specs.Isolation.{SameParts}
 use Rattle.rules.specs.Runs.{run, logged, log}
 use Rattle.rules.specs.Serial.{feeds, committed_ones, RunningOrder}
 use Rattle.rules.specs.Starts.{Lawful, Start}
 use Rattle.rules.specs.States.{Parts, State}
-use Rattle.rules.specs.declared.answer.Answer.{Answer}
 use Rattle.rules.specs.declared.call.Call.{Call}
 use Rattle.rules.proofs.Isolated.{hidden_calls_change_no_visible_answer}
 use Rattle.rules.proofs.Whole.{serial_run_gives_answered_values, running_order_exists}

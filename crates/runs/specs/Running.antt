@@ -3,12 +3,12 @@ use Rattle.std.specs.Prelude.{◌≡◌, ℕ, ◌<◌, Bool, true, false, List, 
 use Rattle.orders.specs.Orders.{Order}
 use Rattle.placements.specs.Placings.{Placing}
 use Rattle.shelves.specs.Items.{Item, ShelfLaws}
+use Rattle.rules.specs.Answers.{Answer}
 use Rattle.rules.specs.Isolation.{seen_calls, seen_log, SameParts, SameItems, SameRows}
 use Rattle.rules.specs.Runs.{run, Sent, logged, log}
 use Rattle.rules.specs.Serial.{feeds, Transaction, committed_ones, RunningOrder, serial_reads, serial_values, answered, newest}
 use Rattle.rules.specs.Starts.{unfit, start}
 use Rattle.rules.specs.States.{Parts, State}
-use Rattle.rules.specs.declared.answer.Answer.{Answer}
 use Rattle.rules.specs.declared.call.Call.{Call}
 use Rattle.scheduler.specs.Views.{parts_of, state_of}
 use Rattle.scheduler.specs.declared.state.Scheduler.{Scheduler}

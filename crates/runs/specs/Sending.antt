@@ -1,13 +1,12 @@
 -- What sending a call does. Assumes nothing.
-use Rattle.std.specs.Prelude.{◌≡◌, ℕ, List, []}
+use Rattle.std.specs.Prelude.{◌≡◌, ℕ, List, [], Err}
 use Rattle.orders.specs.Orders.{Order}
 use Rattle.placements.specs.Placings.{Placing}
 use Rattle.shelves.specs.Items.{Item}
 use Rattle.shelves.specs.declared.edit.Edit.{Edit}
+use Rattle.rules.specs.Answers.{Answer}
 use Rattle.rules.specs.Runs.{step}
 use Rattle.rules.specs.States.{Parts, State, ItemEdit}
-use Rattle.rules.specs.declared.answer.Answer.{Answer}
-use Rattle.rules.specs.declared.answer.Answer.TheVariants.{Refused}
 use Rattle.rules.specs.declared.call.Call.{Call}
 use Rattle.rules.specs.declared.call.Call.TheVariants.{Tick, Begin, Read, Write, Commit, Abort}
 use Rattle.rules.specs.declared.refusal.Refusal.{Refusal}
@@ -33,5 +32,5 @@ pub record Sends {O P S : Type 0} (order : O → Order) (placing : P → Placing
   pub after : state_of items t ≡ (step (parts_of order placing s) (state_of items s) call).1
   pub order_stays : t.order ≡ s.order
   pub placement_stays : t.placement ≡ s.placement
-  pub refused : (e : Refusal) → r ≡ Refused e → t ≡ s
+  pub refused : (e : Refusal) → r ≡ Err e → t ≡ s
   pub traced : Traced items edits s.shelf (ruled_edits call (parts_of order placing s) (state_of items s)) t.shelf

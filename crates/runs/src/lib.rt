@@ -3,6 +3,8 @@
 
 mod running;
 mod sending;
+#[cfg(test)]
+mod tests;
 
-pub use running::{run, run_both};
+pub use running::{NoRoom, run, run_both};
 pub use sending::send;

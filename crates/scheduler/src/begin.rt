@@ -1,5 +1,5 @@
 // Ticks and begins.
-ghost use Rattle.std.specs.Prelude.{◌≡◌, ◌<◌, [], OnOk};
+ghost use Rattle.std.specs.Prelude.{◌≡◌, []};
 ghost use Rattle.rules.specs.Steps.{next_clock, tick, admission, begin};
 ghost use Rattle.scheduler.specs.Views.{parts_of, state_of, Does};
 
@@ -8,7 +8,6 @@ use orders::LevelOrder;
 use placements::Placement;
 use rules::{Admission, Refusal};
 use shelves::Shelf;
-use tables::fill_in;
 
 impl<O: LevelOrder, P: Placement, S: Shelf> Scheduler<O, P, S> {
     fn next_clock(&self) -> Result<u32, Refusal>
@@ -17,10 +16,7 @@ impl<O: LevelOrder, P: Placement, S: Shelf> Scheduler<O, P, S> {
         if !self.sound {
             return Err(Refusal::Unfit);
         }
-        if self.clock == u32::MAX {
-            return Err(Refusal::ClockAtEnd);
-        }
-        Ok(self.clock + 1)
+        self.clock.checked_add(1).ok_or(Refusal::ClockAtEnd)
     }
 
     // Advances the clock and answers it.
@@ -33,24 +29,19 @@ impl<O: LevelOrder, P: Placement, S: Shelf> Scheduler<O, P, S> {
     }
 
     fn admission(&self, level: u8, degree: u8) -> Result<Admission, Refusal>
-        ensures value { result ≡ admission (parts_of O.LevelOrder.meaning P.Placement.meaning self.now) (state_of S.Shelf.items self.now) level degree }
-        ensures within { OnOk result (level < 16) }
+        ensures { result ≡ admission (parts_of O.LevelOrder.meaning P.Placement.meaning self.now) (state_of S.Shelf.items self.now) level degree }
     {
         let table = self.table(level)?;
         if degree > 100 {
             return Err(Refusal::DegreeTooHigh);
         }
-        if table.number == u32::MAX {
-            return Err(Refusal::NumbersAtEnd);
-        }
-        match table.first_free() {
-            None => Err(Refusal::TableFull),
-            Some(place) => Ok(Admission {
-                place,
-                number: table.number + 1,
-                stamp: self.stamp_for(level, degree),
-            }),
-        }
+        let number = table.number.checked_add(1).ok_or(Refusal::NumbersAtEnd)?;
+        let place = table.first_free().ok_or(Refusal::TableFull)?;
+        Ok(Admission {
+            place,
+            number,
+            stamp: self.stamp_for(level, degree),
+        })
     }
 
     // Starts a transaction and answers its number and stamp.
@@ -58,13 +49,8 @@ impl<O: LevelOrder, P: Placement, S: Shelf> Scheduler<O, P, S> {
         ensures { Does O.LevelOrder.meaning P.Placement.meaning S.Shelf.items S.Shelf.edits (λ p s. begin p s level degree) (λ _ _. []) self.old self.new result }
     {
         let admitted = self.admission(level, degree)?;
-        fill_in(
-            &mut self.tables,
-            level,
-            admitted.place,
-            admitted.number,
-            admitted.stamp,
-        );
+        self.tables
+            .fill(level, admitted.place, admitted.number, admitted.stamp);
         Ok((admitted.number, admitted.stamp))
     }
 }

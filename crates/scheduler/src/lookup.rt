@@ -1,47 +1,51 @@
 // What is asked before a call is decided.
-ghost use Rattle.std.specs.Prelude.{◌≡◌, ◌<◌, Ok, OnOk};
+ghost use Rattle.std.specs.Prelude.{◌≡◌, Ok};
 ghost use Rattle.rules.specs.States.{table_at};
-ghost use Rattle.rules.specs.Steps.{at_level, sender, stamp_for};
-ghost use Rattle.rules.specs.Watermarks.{floor, bound, waited_for};
+ghost use Rattle.rules.specs.Steps.{and_then, at_level, sender, item_of, stamp_for};
+ghost use Rattle.rules.specs.Watermarks.{collected, floor, bound, waited_for};
+ghost use Rattle.choosing.specs.Reaches.{reaches};
 ghost use Rattle.scheduler.specs.Views.{parts_of, state_of};
 
 use crate::state::Scheduler;
-use choosing::{Reach, collect, earliest, entries, least};
+use choosing::{Collected, Reach, collect, earliest, least};
 use orders::LevelOrder;
 use placements::Placement;
-use rules::Refusal;
+use rules::{Refusal, TransactionId};
 use shelves::Shelf;
-use tables::{Active, Held, Table, table_of};
+use tables::{Active, Held, Table};
 
 impl<O: LevelOrder, P: Placement, S: Shelf> Scheduler<O, P, S> {
+    // The active transactions at the levels that count for `level`.
+    fn reached(&self, level: u8, reach: Reach) -> Collected
+        ensures { result ≡ collected (reaches (O.LevelOrder.meaning self.now.order) reach level) 0 self.now.tables }
+    {
+        collect(&self.order, &self.tables, level, reach)
+    }
+
     // The least of the clock and the stamps of the active transactions at levels that `level` dominates.
     pub fn floor(&self, level: u8) -> u32
         ensures { result ≡ floor (parts_of O.LevelOrder.meaning P.Placement.meaning self.now) (state_of S.Shelf.items self.now) level }
     {
-        let found = collect(&self.order, &self.tables, level, Reach::AtOrBelow);
-        least(self.clock, &found.list[0..found.count])
+        least(self.clock, self.reached(level, Reach::AtOrBelow).as_slice())
     }
 
     // The same over the levels that `level` strictly dominates.
     pub fn bound(&self, level: u8) -> u32
         ensures { result ≡ bound (parts_of O.LevelOrder.meaning P.Placement.meaning self.now) (state_of S.Shelf.items self.now) level }
     {
-        let found = collect(&self.order, &self.tables, level, Reach::Below);
-        least(self.clock, &found.list[0..found.count])
+        least(self.clock, self.reached(level, Reach::Below).as_slice())
     }
 
     // The transaction that a reader of an item of this level waits for.
     pub(crate) fn waited_for(&self, level: u8) -> Option<Active>
         ensures { result ≡ waited_for (parts_of O.LevelOrder.meaning P.Placement.meaning self.now) (state_of S.Shelf.items self.now) level }
     {
-        let found = collect(&self.order, &self.tables, level, Reach::AtOrBelow);
-        earliest(&found.list[0..found.count])
+        earliest(self.reached(level, Reach::AtOrBelow).as_slice())
     }
 
     // The table of a level, after the checks that come first in every step.
     pub(crate) fn table(&self, level: u8) -> Result<Table, Refusal>
-        ensures value { result ≡ at_level (parts_of O.LevelOrder.meaning P.Placement.meaning self.now) (state_of S.Shelf.items self.now) level (Ok (table_at (state_of S.Shelf.items self.now) level)) }
-        ensures within { OnOk result (level < 16) }
+        ensures { result ≡ at_level (parts_of O.LevelOrder.meaning P.Placement.meaning self.now) (state_of S.Shelf.items self.now) level (Ok (table_at (state_of S.Shelf.items self.now) level)) }
     {
         if !self.sound {
             return Err(Refusal::Unfit);
@@ -49,30 +53,37 @@ impl<O: LevelOrder, P: Placement, S: Shelf> Scheduler<O, P, S> {
         if level >= self.order.levels() {
             return Err(Refusal::UnknownLevel);
         }
-        Ok(table_of(&self.tables, level))
+        Ok(self.tables.of(level))
     }
 
-    // The active transaction `number` of a level.
-    pub(crate) fn sender(&self, level: u8, number: u32) -> Result<Held, Refusal>
-        ensures value { result ≡ sender (parts_of O.LevelOrder.meaning P.Placement.meaning self.now) (state_of S.Shelf.items self.now) level number }
-        ensures within { OnOk result (level < 16) }
+    // Where an active transaction stands.
+    pub(crate) fn sender(&self, transaction: TransactionId) -> Result<Held, Refusal>
+        ensures { result ≡ sender (parts_of O.LevelOrder.meaning P.Placement.meaning self.now) (state_of S.Shelf.items self.now) transaction.level transaction.number }
     {
-        let table = self.table(level)?;
-        match table.find(number) {
-            Some(held) => Ok(held),
-            None => Err(Refusal::NotActive),
+        let table = self.table(transaction.level)?;
+        table.find(transaction.number).ok_or(Refusal::NotActive)
+    }
+
+    // Where an active transaction stands that asks for an item of the shelf.
+    #[tactic(auto, using(crate::proofs::Found::item_known, crate::proofs::Found::item_unknown))]
+    pub(crate) fn asked(&self, transaction: TransactionId, item: u32) -> Result<Held, Refusal>
+        ensures { result ≡ and_then (sender (parts_of O.LevelOrder.meaning P.Placement.meaning self.now) (state_of S.Shelf.items self.now) transaction.level transaction.number) (λ held. and_then (item_of (state_of S.Shelf.items self.now) item) (λ _. Ok held)) }
+    {
+        let held = self.sender(transaction)?;
+        if item >= self.shelf.count() {
+            return Err(Refusal::UnknownItem);
         }
+        Ok(held)
     }
 
     // What the placement answers for a new transaction.
     pub(crate) fn stamp_for(&self, level: u8, degree: u8) -> u32
         ensures { result ≡ stamp_for (parts_of O.LevelOrder.meaning P.Placement.meaning self.now) (state_of S.Shelf.items self.now) level degree }
     {
-        let found = collect(&self.order, &self.tables, level, Reach::Below);
-        let bound = least(self.clock, &found.list[0..found.count]);
-        let low = bound.max(table_of(&self.tables, level).stamp);
-        let list = entries(&found.list);
+        let found = self.reached(level, Reach::Below);
+        let bound = least(self.clock, found.as_slice());
+        let low = bound.max(self.tables.of(level).stamp);
         self.placement
-            .place(degree, low, self.clock, &list[0..found.count])
+            .place(degree, low, self.clock, found.entries().as_slice())
     }
 }

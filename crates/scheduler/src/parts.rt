@@ -8,7 +8,7 @@ use orders::LevelOrder;
 use placements::Placement;
 use shelves::Shelf;
 use steps::check;
-use tables::Table;
+use tables::Tables;
 
 impl<O: LevelOrder, P: Placement, S: Shelf> Scheduler<O, P, S> {
     // A scheduler of these parts, at its start. If they do not fit, it refuses every call.
@@ -25,7 +25,7 @@ impl<O: LevelOrder, P: Placement, S: Shelf> Scheduler<O, P, S> {
             shelf,
             sound,
             clock: 1,
-            tables: [Table::new(); 16],
+            tables: Tables::new(),
         }
     }
 
@@ -45,16 +45,10 @@ impl<O: LevelOrder, P: Placement, S: Shelf> Scheduler<O, P, S> {
 
     // The parts again, which ends the scheduler.
     pub fn into_parts(self) -> (O, P, S)
-        ensures { (result.0 ≡ self.order) × (result.1 ≡ self.placement) × (result.2 ≡ self.shelf) }
+        ensures order { result.0 ≡ self.order }
+        ensures placement { result.1 ≡ self.placement }
+        ensures shelf { result.2 ≡ self.shelf }
     {
-        let Scheduler {
-            order,
-            placement,
-            shelf,
-            sound: _,
-            clock: _,
-            tables: _,
-        } = self;
-        (order, placement, shelf)
+        (self.order, self.placement, self.shelf)
     }
 }

@@ -25,9 +25,8 @@ pub fn apply_reading<S: Shelf>(shelf: &mut S, item: u32, reading: Reading)
     ensures after { S.Shelf.items shelf.new ≡ items_through (S.Shelf.items shelf.old) (edits_of item (read_edits reading)) }
     ensures traced { Traced S.Shelf.items S.Shelf.edits shelf.old (edits_of item (read_edits reading)) shelf.new }
 {
-    match reading.edit {
-        Some(edit) => apply(shelf, item, edit),
-        None => {}
+    if let Some(edit) = reading.edit {
+        apply(shelf, item, edit);
     }
 }
 

@@ -8,10 +8,11 @@ ghost use Rattle.steps.specs.Traces.{Traced};
 
 use crate::edit::apply;
 use choosing::{Wanted, choose};
-use rules::Chosen;
+use rules::{Chosen, TransactionId};
 use shelves::{Edit, Shelf, State, Version};
 
-#[derive(Clone, Copy)]
+// An enum and no closure: a public function that takes a closure has to require that it may be called.
+#[derive(Clone, Copy, PartialEq, Eq, Debug)]
 pub enum End {
     Commit,
     Abort,
@@ -21,11 +22,8 @@ fn committed(version: Version) -> Version
     ensures { result ≡ committed version }
 {
     Version {
-        number: version.number,
-        stamp: version.stamp,
-        mark: version.mark,
         state: State::Committed,
-        value: version.value,
+        ..version
     }
 }
 
@@ -39,25 +37,26 @@ fn edit_for(end: End, chosen: Chosen) -> Edit
 }
 
 // One item: its version of the transaction, if it is of the level and has one.
-fn end_item<S: Shelf>(shelf: &mut S, end: End, level: u8, number: u32, item: u32)
-    ensures after { S.Shelf.items shelf.new ≡ items_through (S.Shelf.items shelf.old) (item_edits end level number item (S.Shelf.items shelf.old)) }
-    ensures traced { Traced S.Shelf.items S.Shelf.edits shelf.old (item_edits end level number item (S.Shelf.items shelf.old)) shelf.new }
+fn end_item<S: Shelf>(shelf: &mut S, end: End, transaction: TransactionId, item: u32)
+    ensures after { S.Shelf.items shelf.new ≡ items_through (S.Shelf.items shelf.old) (item_edits end transaction.level transaction.number item (S.Shelf.items shelf.old)) }
+    ensures traced { Traced S.Shelf.items S.Shelf.edits shelf.old (item_edits end transaction.level transaction.number item (S.Shelf.items shelf.old)) shelf.new }
 {
-    if shelf.level(item) != level {
+    if shelf.level(item) != transaction.level {
         return;
     }
-    match choose(shelf, item, Wanted::Numbered(number)) {
-        Some(chosen) => apply(shelf, item, edit_for(end, chosen)),
-        None => {}
+    if let Some(chosen) = choose(shelf, item, Wanted::Numbered(transaction.number)) {
+        apply(shelf, item, edit_for(end, chosen));
     }
 }
 
 // All items, each once.
-pub fn end_items<S: Shelf>(shelf: &mut S, end: End, level: u8, number: u32)
-    ensures after { S.Shelf.items shelf.new ≡ items_through (S.Shelf.items shelf.old) (end_edits (edit_for end) level number 0 (S.Shelf.items shelf.old)) }
-    ensures traced { Traced S.Shelf.items S.Shelf.edits shelf.old (end_edits (edit_for end) level number 0 (S.Shelf.items shelf.old)) shelf.new }
+#[tactic(auto, using(crate::proofs::Ending::one_ended, crate::proofs::Ending::all_ended))]
+pub fn end_items<S: Shelf>(shelf: &mut S, end: End, transaction: TransactionId)
+    ensures after { S.Shelf.items shelf.new ≡ items_through (S.Shelf.items shelf.old) (end_edits (edit_for end) transaction.level transaction.number 0 (S.Shelf.items shelf.old)) }
+    ensures traced { Traced S.Shelf.items S.Shelf.edits shelf.old (end_edits (edit_for end) transaction.level transaction.number 0 (S.Shelf.items shelf.old)) shelf.new }
 {
+    // A shelf is edited item by item, by number: it lends none of its items.
     for item in 0..shelf.count() {
-        end_item(shelf, end, level, number, item);
+        end_item(shelf, end, transaction, item);
     }
 }

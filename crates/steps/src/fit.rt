@@ -7,18 +7,20 @@ ghost use Rattle.steps.specs.Traces.{item_at};
 
 use orders::LevelOrder;
 use shelves::{Shelf, State, Version};
+use thiserror::Error;
 
 // The first item that does not fit.
-#[derive(Clone, Copy, PartialEq, Eq, Debug)]
+#[derive(Clone, Copy, PartialEq, Eq, Debug, Error)]
+#[error("item {item} does not fit the order")]
 pub struct UnfitItem {
     pub item: u32,
 }
 
-impl UnfitItem {
+impl From<UnfitItem> for u8 {
+    ghost from_gives = { λ _ number. number ≡ 4 };
+
     // The number of this refusal.
-    pub fn number(self) -> u8
-        ensures { result ≡ 4 }
-    {
+    fn from(_unfit: UnfitItem) -> u8 {
         4
     }
 }
@@ -26,13 +28,12 @@ impl UnfitItem {
 fn first_there(found: Option<Version>) -> bool
     ensures { result ≡ first_there found }
 {
-    match found {
-        None => false,
-        Some(version) => match version.state {
-            State::Committed => version.number == 0 && version.stamp == 0 && version.mark == 0,
-            State::Pending => false,
-        },
-    }
+    found.is_some_and(|version| {
+        version.state == State::Committed
+            && version.number == 0
+            && version.stamp == 0
+            && version.mark == 0
+    })
 }
 
 // One committed version with number, stamp and mark 0.
@@ -52,10 +53,7 @@ fn fits<O: LevelOrder, S: Shelf>(order: &O, shelf: &S, item: u32) -> bool
 pub fn check<O: LevelOrder, S: Shelf>(order: &O, shelf: &S) -> Result<(), UnfitItem>
     ensures { result ≡ checked (unfit (O.LevelOrder.meaning order.now) (S.Shelf.items shelf.now)) }
 {
-    for item in 0..shelf.count() {
-        if !fits(order, shelf, item) {
-            return Err(UnfitItem { item });
-        }
-    }
-    Ok(())
+    (0..shelf.count())
+        .find(|&item| !fits(order, shelf, item))
+        .map_or(Ok(()), |item| Err(UnfitItem { item }))
 }

@@ -11,4 +11,4 @@ pub use edit::{apply, apply_reading, apply_writing};
 pub use end::{End, end_items};
 pub use fit::{UnfitItem, check};
 pub use read::{lower_read, own_read, wait};
-pub use write::write_row;
+pub use write::{Written, write_row};

@@ -3,7 +3,7 @@ ghost use Rattle.std.specs.Prelude.{◌≡◌};
 ghost use Rattle.rules.specs.Choices.{is_pending, marked};
 ghost use Rattle.rules.specs.Steps.{own_read, lower_read, wait};
 
-use rules::{Chosen, Reading, Refusal};
+use rules::{Chosen, Reading, Refusal, TransactionId};
 use shelves::{Edit, State, Version};
 use tables::Active;
 
@@ -11,37 +11,28 @@ fn marked(version: Version, number: u32) -> Version
     ensures { result ≡ marked number version }
 {
     Version {
-        number: version.number,
-        stamp: version.stamp,
         mark: version.mark.max(number),
-        state: version.state,
-        value: version.value,
+        ..version
     }
 }
 
 fn is_pending(version: Version) -> bool
     ensures { result ≡ is_pending version }
 {
-    match version.state {
-        State::Committed => false,
-        State::Pending => true,
-    }
+    version.state == State::Pending
 }
 
 // Of a version of its own level: another's pending one is not read, any other is marked.
-pub fn own_read(level: u8, number: u32, chosen: Option<Chosen>) -> Result<Reading, Refusal>
-    ensures { result ≡ own_read level number chosen }
+pub fn own_read(reader: TransactionId, chosen: Option<Chosen>) -> Result<Reading, Refusal>
+    ensures { result ≡ own_read reader.level reader.number chosen }
 {
-    let Some(chosen) = chosen else {
-        return Err(Refusal::Dropped);
-    };
-    let version = chosen.version;
-    if is_pending(version) && version.number != number {
-        return Err(Refusal::PendingOther(level, version.number));
+    let Chosen { place, version } = chosen.ok_or(Refusal::Dropped)?;
+    if is_pending(version) && version.number != reader.number {
+        return Err(Refusal::PendingOther(reader.level, version.number));
     }
     Ok(Reading {
         value: version.value,
-        edit: Some(Edit::Put(chosen.place, marked(version, number))),
+        edit: Some(Edit::Put(place, marked(version, reader.number))),
     })
 }
 
@@ -49,9 +40,7 @@ pub fn own_read(level: u8, number: u32, chosen: Option<Chosen>) -> Result<Readin
 pub fn lower_read(chosen: Option<Chosen>) -> Result<Reading, Refusal>
     ensures { result ≡ lower_read chosen }
 {
-    let Some(chosen) = chosen else {
-        return Err(Refusal::Dropped);
-    };
+    let chosen = chosen.ok_or(Refusal::Dropped)?;
     if is_pending(chosen.version) {
         return Err(Refusal::LowerPending);
     }
@@ -64,8 +53,7 @@ pub fn lower_read(chosen: Option<Chosen>) -> Result<Reading, Refusal>
 pub fn wait(active: Option<Active>) -> Refusal
     ensures { result ≡ wait active }
 {
-    match active {
-        Some(active) => Refusal::Wait(active.level, active.number),
-        None => Refusal::Wait(0, 0),
-    }
+    active.map_or(Refusal::Wait(0, 0), |active| {
+        Refusal::Wait(active.level, active.number)
+    })
 }

@@ -9,41 +9,39 @@ use choosing::{Wanted, choose};
 use rules::{Refusal, Writing};
 use shelves::{Edit, Shelf, State, Version};
 
-fn with_value(version: Version, value: u64) -> Version
-    ensures { result ≡ with_value value version }
-{
-    Version {
-        number: version.number,
-        stamp: version.stamp,
-        mark: version.mark,
-        state: version.state,
-        value,
+// A value that a transaction writes, with the transaction's number and stamp.
+#[derive(Clone, Copy, PartialEq, Eq, Debug)]
+pub struct Written {
+    pub number: u32,
+    pub stamp: u32,
+    pub value: u64,
+}
+
+impl Written {
+    // The version that it becomes.
+    fn pending(self) -> Version
+        ensures { result ≡ pending self.number self.stamp self.value }
+    {
+        Version {
+            number: self.number,
+            stamp: self.stamp,
+            mark: self.number,
+            state: State::Pending,
+            value: self.value,
+        }
     }
 }
 
-// What transaction `number` with this stamp writes.
-fn pending(number: u32, stamp: u32, value: u64) -> Version
-    ensures { result ≡ pending number stamp value }
+fn with_value(version: Version, value: u64) -> Version
+    ensures { result ≡ with_value value version }
 {
-    Version {
-        number,
-        stamp,
-        mark: number,
-        state: State::Pending,
-        value,
-    }
+    Version { value, ..version }
 }
 
 fn is_committed(found: Option<Version>) -> bool
     ensures { result ≡ committed_there found }
 {
-    match found {
-        None => false,
-        Some(version) => match version.state {
-            State::Committed => true,
-            State::Pending => false,
-        },
-    }
+    found.is_some_and(|version| version.state == State::Committed)
 }
 
 // Whether the two oldest versions of an item are committed.
@@ -54,22 +52,15 @@ fn two_committed<S: Shelf>(shelf: &S, item: u32) -> bool
 }
 
 // Behind its predecessor; in a full row the oldest version goes first, and the others move up.
-fn write_behind<S: Shelf>(
-    shelf: &S,
-    item: u32,
-    number: u32,
-    stamp: u32,
-    value: u64,
-) -> Result<Writing, Refusal>
-    ensures { result ≡ write_behind (row_of (S.Shelf.items shelf.now) item) number stamp value (last_that (before number) (row_of (S.Shelf.items shelf.now) item)) }
+#[tactic(auto, using(crate::proofs::Found::chosen_within))]
+fn write_behind<S: Shelf>(shelf: &S, item: u32, written: Written) -> Result<Writing, Refusal>
+    ensures { result ≡ write_behind (row_of (S.Shelf.items shelf.now) item) written.number written.stamp written.value (last_that (before written.number) (row_of (S.Shelf.items shelf.now) item)) }
 {
-    let Some(predecessor) = choose(shelf, item, Wanted::Before(number)) else {
-        return Err(Refusal::Dropped);
-    };
-    if predecessor.version.mark > number {
+    let predecessor = choose(shelf, item, Wanted::Before(written.number)).ok_or(Refusal::Dropped)?;
+    if predecessor.version.mark > written.number {
         return Err(Refusal::ReadLater);
     }
-    let version = pending(number, stamp, value);
+    let version = written.pending();
     if shelf.versions(item) < 8 {
         return Ok(Writing {
             drop: false,
@@ -86,20 +77,14 @@ fn write_behind<S: Shelf>(
 }
 
 // Over its own version, if there is one.
-pub fn write_row<S: Shelf>(
-    shelf: &S,
-    item: u32,
-    number: u32,
-    stamp: u32,
-    value: u64,
-) -> Result<Writing, Refusal>
-    ensures { result ≡ write_row (row_of (S.Shelf.items shelf.now) item) number stamp value (last_that (numbered number) (row_of (S.Shelf.items shelf.now) item)) }
+pub fn write_row<S: Shelf>(shelf: &S, item: u32, written: Written) -> Result<Writing, Refusal>
+    ensures { result ≡ write_row (row_of (S.Shelf.items shelf.now) item) written.number written.stamp written.value (last_that (numbered written.number) (row_of (S.Shelf.items shelf.now) item)) }
 {
-    match choose(shelf, item, Wanted::Numbered(number)) {
+    match choose(shelf, item, Wanted::Numbered(written.number)) {
         Some(own) => Ok(Writing {
             drop: false,
-            edit: Edit::Put(own.place, with_value(own.version, value)),
+            edit: Edit::Put(own.place, with_value(own.version, written.value)),
         }),
-        None => write_behind(shelf, item, number, stamp, value),
+        None => write_behind(shelf, item, written),
     }
 }

@@ -1,5 +1,4 @@
-use Rattle.std.proofs.Common.{length, drop, sym, arith}
-use Rattle.std.proofs.lemmas.Bool.{le-leb, false≢true}
+use Rattle.std.proofs.Common.{length, drop, rules}
 use Rattle.rules.specs.Starts.{Lawful}
 use Rattle.scheduler.specs.Views.{parts_of, state_of}
 use Rattle.runs.proofs.Lawfully.{hides_calls, is_serial, has_running_order}
@@ -17,8 +16,8 @@ returns g c =
     let lawful : Lawful P = record { order = g.met.O.LevelOrder.lawful before.order; placing = g.met.P.Placement.bounded before.placement } in
     let answers = front_answers P s cs c.run_all.new.answers (drop (length cs) c.args.answers.now) ran.answers in
     record {
-      room = sym (le-leb (length cs) (length c.args.answers.now) (omega arith));
-      too_short = λ e. absurd (false≢true (sym e));
+      room = search rules;
+      too_short = λ e. cc;
       ran = λ _. ran;
       hides_calls = λ _. hides_calls P lawful s t cs _ answers ran.state;
       serial = λ _. is_serial P lawful s t cs _ answers ran.state;
