@@ -3,35 +3,26 @@
 // and the same edits of a drawer and of an image.
 #![tactic(auto)]
 
-use chart::print_chart;
-use degrees::print_degrees;
-use labels::take_label;
-use orders::WallsBuilder;
-use rows::print_rows;
+use showing::{print_damaged, print_drawer, print_image, print_parts, two_items};
+use std::alloc::{AllocError, Global};
 
-mod chart;
-mod degrees;
-mod labels;
-mod rows;
-
-fn run(rt: &HostRuntime) -> anyhow::Result<()> {
-    let mut builder = WallsBuilder::new();
-    for line in rt.lines(rt.alloc()) {
-        let line = line?;
-        let answer = take_label(&mut builder, line.as_str());
-        println!(rt; "{line}: {answer}")?;
-    }
-    match builder.finish() {
-        Ok(walls) => print_chart(rt, &walls)?,
-        Err(refusal) => {
-            let number = refusal.number();
-            println!(rt; "no order, refused with {number}: no label was accepted")?;
+// An image of one item at level 0 with the first value 100.
+fn one_item(heap: Global) -> Result<Vec<u8>, AllocError> {
+    let mut bytes = vec![in heap; 0u8; 202]?;
+    for (at, byte) in [(0, 1), (4, 202), (9, 1), (26, 100)] {
+        if let Some(place) = bytes.get_mut(at) {
+            *place = byte;
         }
     }
-    print_degrees(rt)?;
-    print_rows(rt)
+    Ok(bytes)
 }
 
 fn main(rt: HostRuntime) -> anyhow::Result<()> {
-    run(&rt)
+    print_parts(&rt)?;
+    print_drawer(&rt, &mut two_items()?)?;
+    println!(rt; "An image with the same first row, edited alike.")?;
+    print_image(&rt, one_item(rt.alloc())?)?;
+    println!(rt; "The same bytes with level 16, and without the last.")?;
+    print_damaged(&rt, one_item(rt.alloc())?)?;
+    Ok(())
 }

@@ -12,11 +12,7 @@ mod side;
 mod text;
 mod view;
 
-fn run(rt: &HostRuntime) -> anyhow::Result<()> {
-    print_side(rt)?;
-    print_pass(rt)
-}
-
 fn main(rt: HostRuntime) -> anyhow::Result<()> {
-    run(&rt)
+    print_side(&rt)?;
+    print_pass(&rt)
 }

@@ -15,10 +15,7 @@ pub fn walls() -> Result<Walls, OrderRefusal> {
 // The same order, bit by bit.
 pub fn table() -> Result<Table, OrderRefusal> {
     let mut rows = [0; 16];
-    rows[0] = 1;
-    rows[1] = 3;
-    rows[2] = 5;
-    rows[3] = 15;
+    rows[..4].copy_from_slice(&[0b1, 0b11, 0b101, 0b1111]);
     Table::new(4, rows)
 }
 

@@ -1,12 +1,12 @@
-// Calls and answers as text.
-use rules::{Answer, Call, Refusal};
+// Calls and answers as text. The types of `rules` have no text of their own, and an impl for them could stand only there.
+use rules::{Answer, Call, Refusal, Reply};
 use std::fmt;
 
 #[derive(Drop)]
 pub struct Line(pub Call);
 
 #[derive(Drop)]
-pub struct Reply(pub Answer);
+pub struct Shown(pub Answer);
 
 impl fmt::Display for Line {
     fn fmt<W: fmt::Write>(&self, f: &mut fmt::Formatter<W>) -> fmt::Result {
@@ -30,19 +30,16 @@ impl fmt::Display for Line {
     }
 }
 
-impl fmt::Display for Reply {
+impl fmt::Display for Shown {
     fn fmt<W: fmt::Write>(&self, f: &mut fmt::Formatter<W>) -> fmt::Result {
         match self.0 {
-            Answer::Clock(clock) => write!(f, "0 {clock}"),
-            Answer::Begun(number, stamp) => write!(f, "0 {number} {stamp}"),
-            Answer::Value(value) => write!(f, "0 {value}"),
-            Answer::Done => write!(f, "0"),
-            Answer::Refused(Refusal::Wait(level, number)) => write!(f, "18 {level} {number}"),
-            Answer::Refused(Refusal::PendingOther(level, number)) => write!(
-                f,
-                "14 {level} {number}"
-            ),
-            Answer::Refused(refusal) => write!(f, "{}", refusal.number()),
+            Ok(Reply::Clock(clock)) => write!(f, "0 {clock}"),
+            Ok(Reply::Begun(number, stamp)) => write!(f, "0 {number} {stamp}"),
+            Ok(Reply::Value(value)) => write!(f, "0 {value}"),
+            Ok(Reply::Done) => write!(f, "0"),
+            Err(refusal @ (Refusal::Wait(level, number) | Refusal::PendingOther(level, number))) =>
+                write!(f, "{} {level} {number}", u8::from(refusal)),
+            Err(refusal) => write!(f, "{}", u8::from(refusal)),
         }
     }
 }

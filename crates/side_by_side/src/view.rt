@@ -1,9 +1,10 @@
-// What a level sees of a list of calls.
+// What a level sees of a list of calls and of its answers.
 ghost use Rattle.std.specs.Prelude.{◌≡◌, IfOk};
 ghost use Rattle.rules.specs.Isolation.{visible, seen_calls};
+ghost use Rattle.side_by_side.specs.Seen.{seen_answers};
 
 use orders::LevelOrder;
-use rules::Call;
+use rules::{Answer, Call};
 use std::alloc::{AllocError, Global};
 
 // Ticks, and the steps of the levels that it dominates.
@@ -12,11 +13,11 @@ pub fn visible<O: LevelOrder>(order: &O, level: u8, call: Call) -> bool
 {
     match call {
         Call::Tick => true,
-        Call::Begin { level: other, .. } => order.dominates(level, other),
-        Call::Read { level: other, .. } => order.dominates(level, other),
-        Call::Write { level: other, .. } => order.dominates(level, other),
-        Call::Commit { level: other, .. } => order.dominates(level, other),
-        Call::Abort { level: other, .. } => order.dominates(level, other),
+        Call::Begin { level: other, .. }
+        | Call::Read { level: other, .. }
+        | Call::Write { level: other, .. }
+        | Call::Abort { level: other, .. }
+        | Call::Commit { level: other, .. } => order.dominates(level, other),
     }
 }
 
@@ -29,11 +30,26 @@ pub fn seen_calls<O: LevelOrder>(
 ) -> Result<Vec<Call>, AllocError>
     ensures { IfOk result (λ v. v.items ≡ seen_calls (O.LevelOrder.meaning order.now) level calls.now) }
 {
-    let mut seen = Vec::new(heap);
-    for call in calls {
-        if visible(order, level, *call) {
-            seen.push(*call)?;
-        }
-    }
-    Ok(seen)
+    calls
+        .iter()
+        .copied()
+        .filter(|call| visible(order, level, *call))
+        .collect(heap)
+}
+
+// The answers to these.
+pub fn seen_answers<O: LevelOrder>(
+    heap: Global,
+    order: &O,
+    level: u8,
+    calls: &[Call],
+    answers: &[Answer],
+) -> Result<Vec<Answer>, AllocError>
+    ensures { IfOk result (λ v. v.items ≡ seen_answers (O.LevelOrder.meaning order.now) level calls.now answers.now) }
+{
+    calls
+        .iter()
+        .zip(answers)
+        .filter_map(|(call, answer)| visible(order, level, *call).then_some(*answer))
+        .collect(heap)
 }

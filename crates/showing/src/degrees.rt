@@ -1,8 +1,9 @@
 // The same question put to the three placements.
 use placements::{AtClock, Behind, ByDegree, Entry, Placement};
+use std::io;
 
 // Where a new transaction would stand, from 1 to 9, over active work below at 3, 5 and 8.
-pub fn print_degrees(rt: &HostRuntime) -> anyhow::Result<()> {
+pub fn print_degrees(rt: &impl Print) -> io::Result<()> {
     let active = [
         Entry { level: 0, stamp: 3 },
         Entry { level: 1, stamp: 5 },

@@ -1,0 +1,10 @@
+// The parts that need no shelf.
+use crate::degrees::print_degrees;
+use crate::levels::print_levels;
+use std::io;
+
+// The levels of the input's lines with their chart, then the placements.
+pub fn print_parts(rt: &(impl Input + Print + AllocGlobal)) -> io::Result<()> {
+    print_levels(rt)?;
+    print_degrees(rt)
+}

@@ -1,0 +1,14 @@
+use Rattle.std.proofs.Common.{rules}
+use Rattle.std.proofs.lemmas.Iterator.{items_from_collect, YieldsList-from_slice, YieldsList-from_zip}
+use Rattle.std.proofs.lemmas.Iterator.Consumers.{YieldsList-from_filter_map}
+use Rattle.std.specs.Bool.{then_some}
+use Rattle.rules.specs.Isolation.{visible}
+use Rattle.side_by_side.proofs.view.seen_answers.Goals as goal
+
+pub returns : goal.returns
+returns g c =
+    let o = g.O.LevelOrder.meaning c.args.order.now in
+    items_from_collect c.collect.result c.collect.ensures.ran
+    (YieldsList-from_filter_map _ (λ p. then_some (visible o c.args.level p.0) p.1)
+    (YieldsList-from_zip (YieldsList-from_slice c.args.calls.now (search rules)) (YieldsList-from_slice c.args.answers.now (search rules)))
+    c.filter_map.ensures.closure (λ x r q k. (search rules, search rules)))
