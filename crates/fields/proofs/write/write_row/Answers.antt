@@ -31,16 +31,3 @@ loop-j-preserved c =
       subst (AllByRecursion VersionFits) (sym (take_more vs j blank c.loop-j-test.true))
           (All-append VersionFits (take j vs) (get_or vs j blank ∷ []) c.loop-j.invariant.1 (c.version_bytes.ensures.fits, tt)),
     )
-
-pub returns : goal.returns
-returns c =
-    let bs = c.args.bytes.now in
-    let ds = row_bytes c.args.versions.now in
-    let all = take_all c.loop-j.j c.args.versions.now c.loop-j-test.false in
-    let room : c.args.start + length (row_bytes c.args.versions.now) ≤ length c.args.bytes.now =
-    omega (arith, length_row_bytes c.args.versions.now, c.if-versions-bytes.false) in
-    record {
-      answer = sym (has_room_true bs c.args.start ds room);
-      after = c.loop-j.invariant.0 ∙ ap (λ vs. pasted bs c.args.start (row_bytes vs)) all ∙ sym (written_if_room bs c.args.start ds room);
-      fits = λ _. subst (AllByRecursion VersionFits) all c.loop-j.invariant.1;
-    }

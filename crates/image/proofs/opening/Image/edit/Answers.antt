@@ -19,16 +19,6 @@ replace_row-requires c =
     let m = c.args.self.now in
     omega (arith, c.start-start.ensures, c.in-Some.ensures.known, (image_ok m.bytes.items m.ok).length_exact, ap length c.as_mut_slice-bytes.ensures.value)
 
-pub bounds-bytes-used : goal.bounds-bytes-used
-bounds-bytes-used c =
-    let m = c.args.self.now in
-    let bs = m.bytes.items in
-    let i = c.args.item in
-    let e = c.args.edit in
-    let w = row_written bs i e c.in-Some.before c.in-Some.after c.in-Some.ensures m.ok c.requires (λ k. search rules) _ c.replace_row.new.bytes _ c.used.result c.len.result
-    c.replace_row.ensures c.as_mut_slice-bytes.ensures.value c.start-start.ensures c.used.ensures c.len.ensures in
-    omega (arith, w.same_length, length-set c.replace_row.new.bytes c.used.result c.len.result, c.in-Some.ensures.known, (image_ok bs m.ok).length_exact)
-
 pub invariant_of-self : goal.invariant_of-self
 invariant_of-self c =
     let m = c.args.self.now in
