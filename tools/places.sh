@@ -35,5 +35,5 @@ show '5a level and number of a transaction as parameters' 'level: u8, number: u3
 show '5b the fact that bytes are an image' 'requires.*\{ IsImage bytes'
 show '5c the fact that a list has its length' '(requires|ensures) full '
 show '5d number, stamp and value of a write as parameters' 'number: u32, stamp: u32, value: u64|^ +stamp: u32,$'
-show '6 arrays with a length beside' '^ +(pub |pub\(crate\) )?(count|used): (u8|u32|usize),$'
+show '6 arrays with a length beside' '^ +(pub |pub\((crate|super)\) )?(count|used): (u8|u32|usize),$'
 show '7 tests and steps told by a value' '^(pub )?enum (Reach|Wanted|End) |^trait Test |^struct (Single|Pair|Triple) '

@@ -6,7 +6,7 @@ ghost use Rattle.tables.specs.declared.place.Active.{Active};
 use std::marker::Model;
 use tables::{Active, Place};
 
-// There are at most eight for each of sixteen levels.
+// An array and a count, since nothing is allocated; there are at most eight for each of sixteen levels.
 #[derive(Drop)]
 pub struct Collected {
     pub(crate) list: [Active; 128],
@@ -49,6 +49,7 @@ impl Collected {
         ensures { self.new ≡ self.old ++ active ∷ [] }
     {
         self.list[self.count] = active;
+        // One more in fixed memory: the only line that counts.
         self.count += 1;
     }
 

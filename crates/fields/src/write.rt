@@ -55,6 +55,7 @@ pub fn write_row(bytes: &mut [u8], start: usize, versions: &[Version]) -> bool
     if versions.len() > (bytes.len() - start) / 24 {
         return false;
     }
+    // At offsets by number: of what a chain writes into chunks, nothing is known afterwards.
     for (j, version) in versions.iter().enumerate() {
         write(bytes, start + 24 * j, &version_bytes(*version));
     }

@@ -9,7 +9,7 @@ use crate::refusal::Refusal;
 pub enum Reply {
     // The clock after a tick.
     Clock(u32),
-    // Number and stamp of the transaction that began.
+    // Number and stamp of the transaction that began, one by one, as every law on a begin names them.
     Begun(u32, u32),
     // The value that was read.
     Value(u64),

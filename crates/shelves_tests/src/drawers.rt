@@ -3,7 +3,7 @@ use crate::rules::version;
 use shelves::{Drawer, Shelf, ShelfRefusal, State};
 use std::test::Fail;
 
-// Puts back what it looked at.
+// Puts back what it looked at; yes or no, as the shelf says.
 fn put_back<S: Shelf>(shelf: &mut S, item: u32, place: usize) -> bool {
     shelf
         .look(item, place)

@@ -39,6 +39,7 @@ fn print_edit(rt: &impl Print, name: &str, accepted: bool) -> io::Result<()> {
     println!(rt; "{name}: {answer}")
 }
 
+// A sample, written out: the version that a write makes is a matter of the steps, which no shelf knows.
 fn pending(number: u32, stamp: u32, value: u64) -> Version
     ensures { result ≡ pending number stamp value }
 {

@@ -1,4 +1,4 @@
-// Edits of a shelf, each with what it leaves of the items and of the memory.
+// Edits of a shelf, each with what it leaves of the items and of the memory: two clauses each, since callers use either alone.
 ghost use Rattle.std.specs.Prelude.{◌≡◌};
 ghost use Rattle.shelves.specs.Items.{items_after};
 ghost use Rattle.rules.specs.States.{edits_of, items_through};

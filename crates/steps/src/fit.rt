@@ -6,7 +6,7 @@ ghost use Rattle.steps.specs.Checks.{checked, first_there};
 ghost use Rattle.steps.specs.Traces.{item_at};
 
 use orders::LevelOrder;
-use shelves::{Shelf, State, Version};
+use shelves::{BLANK, Shelf, Version};
 use thiserror::Error;
 
 // The first item that does not fit.
@@ -29,10 +29,11 @@ fn first_there(found: Option<Version>) -> bool
     ensures { result ≡ first_there found }
 {
     found.is_some_and(|version| {
-        version.state == State::Committed
-            && version.number == 0
-            && version.stamp == 0
-            && version.mark == 0
+        version
+            == Version {
+                value: version.value,
+                ..BLANK
+            }
     })
 }
 

@@ -49,6 +49,7 @@ impl Places<'_> {
     pub(super) fn any_committed(&self) -> bool
         ensures { result ≡ any_committed (row_at self.now.bytes.now self.now.start self.now.used) }
     {
+        // 0 is committed.
         let places = &self.bytes[self.start..self.start + 24 * self.used];
         places.chunks_exact(24).any(|place| read32(place, 12) == 0)
     }

@@ -49,7 +49,8 @@ fn check_versions(versions: &[Version], start: usize) -> Result<(), LayoutFault>
 }
 
 impl<R: Rows> Fitting<'_, R> {
-    // An item: its level, its number of versions, then its versions.
+    // An item: its level, its number of versions, then its versions. The tests of `Whole::item_fault` again, of rows: rows that
+    // are refused have no bytes yet.
     fn check_item(&self, item: u32) -> Result<(), LayoutFault>
         requires { item < length (R.items self.now.rows.now) }
         ensures { result ≡ laid_answer (plain_fault (length (R.items self.now.rows.now)) item (level_of (R.items self.now.rows.now) item) (row_of (R.items self.now.rows.now) item)) }

@@ -12,7 +12,8 @@ use crate::offsets;
 use fields::{write_row, write32};
 
 impl<R: Rows> Fitting<'_, R> {
-    // How many items, and how many bytes.
+    // How many items, and how many bytes. How long the bytes are is asked here and at `write_item`: they are lent to be written,
+    // so that no type of rows holds it.
     pub(super) fn write_head(&self, bytes: &mut [u8])
         requires { length bytes.old ≡ whole (length (R.items self.now.rows.now)) }
         ensures { bytes.new ≡ pasted bytes.old 0 (head_bytes (length (R.items self.now.rows.now))) }

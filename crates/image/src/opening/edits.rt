@@ -51,6 +51,7 @@ impl Image {
         ensures refused { result ≡ false → self.new ≡ self.old }
         ensures step { result ≡ true → ImageEdited self.old item edit self.new }
     {
+        // A let with an else: a function that answers a bool has no `?`.
         let Some((before, after)) = self.edited(item, edit) else {
             return false;
         };

@@ -49,6 +49,7 @@ impl WallsBuilder {
         ensures { labels_of self.new ≡ labels_of self.old ++ label ∷ [] }
     {
         self.labels[self.count as usize] = label;
+        // One more in fixed memory: the only line that counts.
         self.count += 1;
     }
 

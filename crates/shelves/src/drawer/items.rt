@@ -56,6 +56,7 @@ impl Drawer {
             return Err(ShelfRefusal::DrawerFull);
         }
         self.entries[self.count as usize] = Entry::new(level, value);
+        // One more in fixed memory: the only line that counts.
         self.count += 1;
         Ok(())
     }
@@ -76,6 +77,7 @@ impl Drawer {
         if item >= self.count {
             return false;
         }
+        // A let with an else: a function that answers a bool has no `?`.
         let Some(next) = self.entries[item as usize].edited(edit) else {
             return false;
         };
