@@ -1,13 +1,12 @@
 -- The stamp that has k others before it is the one at which the counts of smaller and of no larger stamps lie on both
 -- sides of k; the counts do not depend on the order. Assumes nothing.
-use Rattle.std.proofs.Common.{◌≡◌, ℕ, zero, suc, ◌+◌, ◌<◌, ◌≤◌, Bool, true, false, ltb, leb, List, [], ◌∷◌, length, get_or, cond, MatchOption, Option, Some, None, zero-add, sum_by, sym, refl, ap, ◌∙◌, subst, inl, inr, arith}
-use Rattle.std.specs.List.{AllByRecursion, AllWithin, HoldsAt, count_by, slice_get}
+use Rattle.std.proofs.Common.{◌≡◌, ℕ, zero, suc, ◌+◌, ◌<◌, ◌≤◌, Bool, true, false, ltb, leb, List, [], ◌∷◌, length, get_or, MatchOption, Option, Some, None, sum_by, sym, refl, ap, ◌∙◌, subst, inl, inr, arith}
+use Rattle.std.specs.List.{AllByRecursion, AllWithin, HoldsAt, slice_get}
 use Rattle.std.specs.List.Sorted.{IsPermutation}
 use Rattle.std.proofs.lemmas.Option.{none-some, same_Some}
 use Rattle.std.proofs.ByRecursion.{All-weaker, All-from_get_or}
 use Rattle.std.proofs.lemmas.List.{length-map}
 use Rattle.std.proofs.lemmas.List.Sorted.{length_permutation, sum_by-IsPermutation}
-use Rattle.std.proofs.lemmas.List.Recursion.{is_count_by}
 use Rattle.std.proofs.lemmas.List.Sums.{sum_by-cons}
 use Rattle.std.proofs.lemmas.Bool.{and_parts, and_from, leb-true, leb-false, ltb-true, le-leb, lt-ltb, le-ltb, cases_lt, cases_order, both_ways, cond_both}
 use Rattle.std.proofs.lemmas.Option.{slice_get-get_or, slice_get_past}
@@ -184,9 +183,12 @@ same_counts xs ys len counts k =
       | inr h ↦ ranked_none xs k h ∙ sym (ranked_none ys k (omega (arith, len)))
     ]
 
-below_sum : (t : ℕ) (es : List Entry) → below t (stamps es) ≡ sum_by (λ e. one_if (ltb e.stamp t)) es
+pub below_sum : (t : ℕ) (es : List Entry) → below t (stamps es) ≡ sum_by (λ e. one_if (ltb e.stamp t)) es
 below_sum t [] = refl
 below_sum t (e ∷ es) = ap (λ n. one_if (ltb e.stamp t) + n) (below_sum t es) ∙ sym (sum_by-cons (λ f. one_if (ltb f.stamp t)) e es)
+
+pub below_sum_all : (t : ℕ) (es : List Entry) → sum_by (λ e. one_if (ltb e.stamp t)) es ≤ length es
+below_sum_all t es = omega (arith, below_sum t es, below_all t (stamps es), length-map es (λ (e : Entry). e.stamp))
 
 pub ranked_in_any_order : (es fs : List Entry) (k : ℕ) → IsPermutation es fs → ranked (stamps es) k ≡ ranked (stamps fs) k
 ranked_in_any_order es fs k h =
@@ -216,12 +218,3 @@ answered es k (Some s) w =
       value = sym (between_ranked (stamps es) k s p);
       rank = record { member = (w.1, w.2, w.3); smaller = p.smaller; no_larger = p.no_larger };
     }
-
--- the count, in the library's word
-counted_or : (b : Bool) (n : ℕ) → one_if b + n ≡ cond b (1 + n) n
-counted_or true n = refl
-counted_or false n = zero-add n
-
-pub below_by_count : (t : ℕ) (es : List Entry) → below t (stamps es) ≡ count_by (λ e. ltb e.stamp t) es
-below_by_count t es =
-    is_count_by (λ fs. below t (stamps fs)) (λ e. ltb e.stamp t) refl (λ e fs. counted_or (ltb e.stamp t) (below t (stamps fs))) es

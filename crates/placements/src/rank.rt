@@ -47,12 +47,13 @@ fn has_rank(entries: &[Entry], k: usize, stamp: u32) -> bool
     below(entries, stamp) <= k && k < below(entries, stamp + 1)
 }
 
-// How many stamps are below `limit`.
+// How many stamps are below `limit`. Each adds 0 or 1 to a sum, so the loop has no branch: stamps are in no order, and with
+// a branch on each, as `filter` makes it, ranking takes almost three times as long.
 fn below(entries: &[Entry], limit: u64) -> usize
     ensures { result ≡ below limit (stamps entries.now) }
 {
     entries
         .iter()
-        .filter(|entry| u64::from(entry.stamp) < limit)
-        .count()
+        .map(|entry| usize::from(u64::from(entry.stamp) < limit))
+        .sum()
 }
