@@ -1,3 +1,2 @@
 pub mod Ruled
 pub mod Stays
-pub mod Made

@@ -29,16 +29,21 @@ impl Row {
     }
 
     // The row after an edit, if that is accepted.
-    #[tactic(auto, using(crate::proofs::Made::edited_by_made))]
     pub fn edited(&self, edit: Edit) -> Option<Row>
         ensures { MatchOption result (accepts edit (versions self.now) ≡ false) (RowEdited edit self.now) }
     {
         if !edit.fits(self.count) {
             return None;
         }
-        Row::new(
-            edit.places_after(&self.places),
-            edit.count_after(self.count as u8),
-        )
+        // A ninth version is refused before the places are made.
+        let count = edit.count_after(self.count as u8);
+        if count > 8 {
+            return None;
+        }
+        let places = edit.places_after(&self.places);
+        if !keeps_rule(&places[..count]) {
+            return None;
+        }
+        Some(Row { count, places })
     }
 }
