@@ -1,11 +1,11 @@
-use Rattle.std.proofs.Common.{◌+◌, ◌*◌, ◌<◌, ◌≤◌, [], ◌∷◌, length, get_or, take, sym, ap, ap₂, ◌∙◌, subst, arith}
+use Rattle.std.proofs.Common.{◌+◌, ◌*◌, ◌<◌, ◌≤◌, [], ◌∷◌, length, get_or, take, sym, ap₂, ◌∙◌, subst, arith}
 use Rattle.std.specs.List.{AllByRecursion}
 use Rattle.std.proofs.ByRecursion.{All-append}
 use Rattle.std.proofs.lemmas.Bool.{false≢true}
-use Rattle.std.proofs.lemmas.List.{take_all, take_more}
+use Rattle.std.proofs.lemmas.List.{take_more}
 use Rattle.shelves.specs.Edits.{blank}
-use Rattle.fields.specs.Written.{row_bytes, pasted, written, VersionFits}
-use Rattle.fields.proofs.Pasted.{length_row_bytes, row_written_more, has_room_true, has_room_false, written_if_room, written_if_none}
+use Rattle.fields.specs.Written.{row_bytes, written, VersionFits}
+use Rattle.fields.proofs.Pasted.{length_row_bytes, row_written_more, has_room_false, written_if_none}
 use Rattle.fields.proofs.write.write_row.Goals as goal
 
 pub returns-then-versions-bytes : goal.returns-then-versions-bytes
