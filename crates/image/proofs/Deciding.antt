@@ -1,12 +1,12 @@
 -- The row of an item as it is read, and what an accepted edit of it leaves. Assumes nothing.
-use Rattle.std.proofs.Common.{◌≡◌, ℕ, ◌+◌, ◌*◌, ◌<◌, ◌≤◌, true, false, nat_le, List, ◌++◌, map, length, take, set, Some, None, Option, MatchOption, sym, refl, ap, ap₂, ◌∙◌, subst, inl, inr}
-use Rattle.std.specs.List.{range_with_len, slice_get}
-use Rattle.std.specs.Option.{option_map, unwrap_or}
+use Rattle.std.proofs.Common.{◌≡◌, ℕ, ◌+◌, ◌*◌, ◌<◌, ◌≤◌, true, false, ◌&&◌, nat_le, List, ◌++◌, length, take, set, Some, None, Option, MatchOption, sym, refl, ap, ap₂, ◌∙◌, subst, inl, inr}
+use Rattle.std.specs.List.{slice_get}
+use Rattle.std.specs.Option.{option_map}
 use Rattle.std.proofs.ByRecursion.{All-get_or}
-use Rattle.std.proofs.lemmas.List.FromFn.{length-map-range_with_len, take-map-range_with_len, fill_by_all}
-use Rattle.std.proofs.lemmas.Option.{none-some, same_Some, slice_get_within, get_or_from_slice_get, unwrap_or-slice_get}
+use Rattle.std.proofs.lemmas.List.FromFn.{length-map-range_with_len}
+use Rattle.std.proofs.lemmas.Option.{none-some, same_Some, slice_get_within, slice_get_past, get_or_from_slice_get}
 use Rattle.std.proofs.lemmas.Bool.{and_from, le-leb, cases_lt, false≢true}
-use Rattle.shelves.specs.Edits.{blank, edited, accepts}
+use Rattle.shelves.specs.Edits.{fits, edited, accepts}
 use Rattle.shelves.specs.Items.{Item, ShelfLaws, row_in, row_of, accepts_in, accepts_at}
 use Rattle.shelves.specs.RowEdits.{versions, makes_row, RowMade}
 use Rattle.shelves.specs.RowsAfter.{versions_edited}
@@ -18,45 +18,47 @@ use Rattle.shelves.proofs.Ruled.{rule_decides}
 use Rattle.fields.specs.Fields.{byte, version_at}
 use Rattle.fields.specs.Written.{row_bytes, pasted}
 use Rattle.image.specs.Decided.{EditFits, RowsEdited}
+use Rattle.image.specs.Laid.{filled}
 use Rattle.image.specs.Images.{is_image}
 use Rattle.image.specs.Layout.{item_count, used_at, row_start, item_at, image_items}
 use Rattle.image.specs.Writes.{freed}
 use Rattle.image.specs.Counted.{nth_counted, nth_past_counted}
 use Rattle.image.specs.Shelved.{Written, edit_written}
+use Rattle.image.proofs.Filled.{filled_front}
 
 row_ruled : (items : List Item) (i : ℕ) (it : Item) → ShelfLaws items → slice_get items i ≡ Some it → keeps_rule it.row ≡ true
 row_ruled items i it laws is =
     subst (λ (x : Item). keeps_rule x.row ≡ true) (get_or_from_slice_get items i it it is)
     (All-get_or (λ (x : Item). keeps_rule x.row ≡ true) items i it (slice_get_within items i it is) laws.ruled)
 
--- eight places, of which the first hold a row
-abbrev pub placed : List Version → List Version
-placed vs = map (λ j. unwrap_or (slice_get vs j) blank) (range_with_len 0 8)
-
-placed_front : (vs : List Version) → length vs ≤ 8 → take (length vs) (placed vs) ≡ vs
-placed_front vs few =
-    take-map-range_with_len (λ j. unwrap_or (slice_get vs j) blank) 0 8 (length vs) few
-    ∙ sym (fill_by_all (λ j. unwrap_or (slice_get vs j) blank) vs (length vs) blank refl (λ k h. sym (unwrap_or-slice_get vs k blank)))
-
 -- the row of an item is made of the versions that are looked at, and there is none where there is no item
 made_of : (o : Option Item) → ((it : Item) → o ≡ Some it → keeps_rule it.row ≡ true)
-    → (r : Option Row) → MatchOption r (makes_row (placed (row_in o)) (length (row_in o)) ≡ false) (RowMade (placed (row_in o)) (length (row_in o)))
+    → (r : Option Row) → MatchOption r (makes_row (filled (row_in o)) (length (row_in o)) ≡ false) (RowMade (filled (row_in o)) (length (row_in o)))
     → option_map versions r ≡ option_map (λ it. it.row) o
 made_of None ruled None m = refl
 made_of None ruled (Some r) m = absurd (false≢true m.made)
 made_of (Some it) ruled None m =
     let few = ((rule_decides it.row).0 (ruled it refl)).few in
-    absurd (false≢true (sym m ∙ and_from (nat_le (length it.row) 8) (keeps_rule (take (length it.row) (placed it.row))) (le-leb (length it.row) 8 few)
-    (ap keeps_rule (placed_front it.row few) ∙ ruled it refl)))
-made_of (Some it) ruled (Some r) m =
-    let few = ((rule_decides it.row).0 (ruled it refl)).few in
-    ap Some (ap₂ take m.count m.places ∙ placed_front it.row few)
+    absurd (false≢true (sym m ∙ and_from (nat_le (length it.row) 8) (keeps_rule (take (length it.row) (filled it.row))) (le-leb (length it.row) 8 few)
+    (ap keeps_rule (filled_front it.row) ∙ ruled it refl)))
+made_of (Some it) ruled (Some r) m = ap Some (ap₂ take m.count m.places ∙ filled_front it.row)
 
-pub row_is : (items : List Item) (i : ℕ) → ShelfLaws items → (ps : List Version) → ps ≡ placed (row_of items i) → (n : ℕ) → n ≡ length (row_of items i)
+pub row_is : (items : List Item) (i : ℕ) → ShelfLaws items → (ps : List Version) → ps ≡ filled (row_of items i) → (n : ℕ) → n ≡ length (row_of items i)
     → (r : Option Row) → MatchOption r (makes_row ps n ≡ false) (RowMade ps n) → option_map versions r ≡ option_map (λ it. it.row) (slice_get items i)
 row_is items i laws ps p n q r m =
     made_of (slice_get items i) (λ it is. row_ruled items i it laws is) r (subst (λ vs. MatchOption r (makes_row vs (length (row_of items i)) ≡ false) (RowMade vs (length (row_of items i)))) p
     (subst (λ k. MatchOption r (makes_row ps k ≡ false) (RowMade ps k)) q m))
+
+-- what is refused before a version is read
+unfit_in : (o : Option Item) (e : Edit) → fits e (length (row_in o)) ≡ false → accepts_in e o ≡ false
+unfit_in None e h = refl
+unfit_in (Some it) e h = ap (λ b. b && keeps_rule (edited e it.row)) h
+
+pub unfit_edit : (items : List Item) (i : ℕ) (e : Edit) → fits e (length (row_of items i)) ≡ false → accepts_at items i e ≡ false
+unfit_edit items i e h = unfit_in (slice_get items i) e h
+
+pub unknown_edit : (items : List Item) (i : ℕ) (e : Edit) → length items ≤ i → accepts_at items i e ≡ false
+unknown_edit items i e h = ap (accepts_in e) (slice_get_past items i h)
 
 module _ (bs : List ℕ) (i : ℕ) (e : Edit) where
   pub known_edit : i < item_count bs → accepts_at (image_items bs) i e ≡ accepts e (item_at bs i).row

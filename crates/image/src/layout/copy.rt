@@ -4,7 +4,7 @@ ghost use Rattle.image.specs.Laid.{LaidOut};
 use crate::layout::LayoutFault;
 use crate::layout::all::lay_out_rows;
 use crate::layout::rows::Rows;
-use shelves::{Shelf, Version};
+use shelves::{BLANK, Shelf, Version};
 
 // A shelf, of which the items are copied: a type of its own, since an `impl` for every shelf would overlap with that for plain rows.
 #[derive(Drop)]
@@ -27,8 +27,14 @@ impl<'a, S: Shelf> Rows for Copied<'a, S> {
         self.shelf.versions(item)
     }
 
-    fn look(&self, item: u32, place: usize) -> Option<Version> {
-        self.shelf.look(item, place)
+    fn places(&self, item: u32) -> [Version; 8] {
+        // A plain loop over the versions that there are: `array::from_fn` would ask for all eight, and took three times as long.
+        let used = self.shelf.versions(item);
+        let mut places = [BLANK; 8];
+        for place in 0..used {
+            places[place] = self.shelf.look(item, place).unwrap_or(BLANK);
+        }
+        places
     }
 }
 

@@ -5,7 +5,7 @@ ghost use Rattle.image.specs.Laid.{next_fault, versions_fault, plain_fault, plai
 
 use crate::layout::LayoutFault;
 use crate::layout::fitting::Fitting;
-use crate::layout::rows::{Rows, places};
+use crate::layout::rows::Rows;
 use crate::offsets;
 use shelves::{Version, any_committed};
 
@@ -66,7 +66,7 @@ impl<R: Rows> Fitting<'_, R> {
                 offset: offsets::used(item),
             });
         }
-        let places = places(self.rows, item);
+        let places = self.rows.places(item);
         if !any_committed(&places[..used]) {
             return Err(LayoutFault {
                 offset: offsets::used(item),

@@ -7,7 +7,7 @@ ghost use Rattle.image.specs.Laid.{filled, head_bytes, item_of, item_written};
 ghost use Rattle.image.specs.Layout.{whole};
 
 use crate::layout::fitting::Fitting;
-use crate::layout::rows::{Rows, places};
+use crate::layout::rows::Rows;
 use crate::offsets;
 use fields::{write_row, write32};
 
@@ -33,6 +33,6 @@ impl<R: Rows> Fitting<'_, R> {
         bytes[offsets::level(item)] = self.rows.level(item);
         bytes[offsets::used(item)] = self.rows.versions(item) as u8;
         let start = offsets::row_start(self.count(), item);
-        write_row(bytes, start, &places(self.rows, item));
+        write_row(bytes, start, &self.rows.places(item));
     }
 }

@@ -4,7 +4,7 @@ ghost use Rattle.image.specs.Laid.{plain_items, LaidOut};
 use crate::layout::all::lay_out_rows;
 use crate::layout::rows::Rows;
 use crate::layout::{LayoutFault, PlainRow};
-use shelves::Version;
+use shelves::{BLANK, Version};
 
 // Plain rows, any number of them.
 #[derive(Drop)]
@@ -29,8 +29,12 @@ impl<'a> Rows for Plain<'a> {
             .map_or(0, |row| row.versions.len())
     }
 
-    fn look(&self, item: u32, place: usize) -> Option<Version> {
-        self.rows.get(item as usize)?.versions.get(place).copied()
+    fn places(&self, item: u32) -> [Version; 8] {
+        let mut places = [BLANK; 8];
+        if let Some(row) = self.rows.get(item as usize) {
+            places[..row.versions.len()].copy_from_slice(row.versions);
+        }
+        places
     }
 }
 

@@ -1,10 +1,9 @@
 // What can be laid out.
 ghost use Rattle.std.specs.Prelude.{◌≡◌, ◌≤◌, List, length};
-ghost use Rattle.std.specs.List.{slice_get};
 ghost use Rattle.shelves.specs.Items.{Item, level_of, row_of};
 ghost use Rattle.image.specs.Laid.{filled};
 
-use shelves::{BLANK, Version};
+use shelves::Version;
 
 // Items that are asked for by their numbers, with rows of any number of versions.
 pub(super) trait Rows {
@@ -23,16 +22,9 @@ pub(super) trait Rows {
     fn versions(&self, item: u32) -> usize
         ensures { result ≡ length (row_of (items self.now) item) };
 
-    // The version at a place of an item's row, if there is one.
-    fn look(&self, item: u32, place: usize) -> Option<Version>
-        ensures { result ≡ slice_get (row_of (items self.now) item) place };
-}
-
-// Eight places: an item's row, then zeros. A plain row may have more than eight versions, so that no type of rows says here,
-// where a row is written and where its versions are tested, that there are no more.
-pub(super) fn places<R: Rows>(rows: &R, item: u32) -> [Version; 8]
-    requires { length (row_of (R.items rows.now) item) ≤ 8 }
-    ensures { result ≡ filled (row_of (R.items rows.now) item) }
-{
-    std::array::from_fn(|place| rows.look(item, place).unwrap_or(BLANK))
+    // Eight places: an item's row, then zeros. A plain row may have more than eight versions, so that no type of rows says here,
+    // where a row is written and where its versions are tested, that there are no more.
+    fn places(&self, item: u32) -> [Version; 8]
+        requires { length (row_of (items self.now) item) ≤ 8 }
+        ensures { result ≡ filled (row_of (items self.now) item) };
 }

@@ -31,14 +31,23 @@ impl Image {
     fn row(&self, item: u32) -> Option<Row>
         ensures { option_map versions result ≡ option_map (λ it. it.row) (slice_get (items_of self.now) item) }
     {
-        let places = std::array::from_fn(|j| self.look(item, j).unwrap_or(BLANK));
-        Row::new(places, self.versions(item))
+        // A plain loop over the versions that there are, for the same reason as in lay-out.
+        let used = self.versions(item);
+        let mut places = [BLANK; 8];
+        for place in 0..used {
+            places[place] = self.look(item, place).unwrap_or(BLANK);
+        }
+        Row::new(places, used)
     }
 
     // The row of an item and what an edit makes of it, if the edit is accepted.
     fn edited(&self, item: u32, edit: Edit) -> Option<(Row, Row)>
         ensures { MatchOption result (accepts_at (items_of self.now) item edit ≡ false) (RowsEdited (bytes_of self.now) item edit) }
     {
+        // What can be told by numbers is told before a version is read.
+        if item >= self.count() || !edit.fits(self.versions(item)) {
+            return None;
+        }
         let before = self.row(item)?;
         let after = before.edited(edit)?;
         Some((before, after))

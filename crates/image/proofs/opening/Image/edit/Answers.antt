@@ -1,5 +1,5 @@
 use Rattle.std.proofs.Common.{rules, length, set, sym, ap, ◌∙◌, subst, arith}
-use Rattle.std.proofs.lemmas.List.{length-set, with_items_is}
+use Rattle.std.proofs.lemmas.List.{with_items_is}
 use Rattle.std.proofs.lemmas.Bool.{true≢false}
 use Rattle.shelves.proofs.Stays.{items_kept}
 use Rattle.image.specs.Decided.{BytesEdited}
