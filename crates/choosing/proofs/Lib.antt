@@ -1,1 +1,2 @@
+mod Vacant
 mod Walked

@@ -5,7 +5,6 @@ use Rattle.std.proofs.lemmas.List.{at_drop_all, at_drop_more}
 use Rattle.std.proofs.lemmas.Option.{slice_get-get_or}
 use Rattle.shelves.specs.Edits.{blank}
 use Rattle.shelves.specs.declared.version.Version.{Version}
-use Rattle.tables.specs.declared.place.Active.{Active}
 use Rattle.tables.specs.declared.table.Table.{Table}
 use Rattle.rules.specs.Choices.{last_from}
 use Rattle.rules.specs.Watermarks.{collected}
@@ -24,10 +23,6 @@ pub last_by_fold : (p : Version → Bool) (row : List Version) (n i : ℕ) (best
 last_by_fold p row zero i best e = sym (at_drop_all (last_from p best i) row i (omega (arith, e)))
 last_by_fold p row (suc n) i best e =
     last_by_fold p row n (i + 1) (later p best i (slice_get row i)) (omega (arith, e)) ∙ sym (last_more p best i row (omega (arith, e)))
-
--- what is read past the end of a list of transactions
-abbrev pub nobody : Active
-nobody = record { level = 0; number = 0; stamp = 0 }
 
 -- past the last level
 pub no_level : (p : ℕ → Bool) (i : ℕ) (ts : List Table) → length ts ≡ 0 → collected p i ts ≡ []

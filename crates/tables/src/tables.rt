@@ -22,6 +22,15 @@ impl Model for Tables {
     ghost inverse = { λ list. record { list = list } };
 }
 
+// Any sixteen.
+impl From<[Table; 16]> for Tables {
+    ghost from_gives = { λ list tables. tables ≡ list };
+
+    fn from(list: [Table; 16]) -> Tables {
+        Tables { list }
+    }
+}
+
 impl Tables {
     // Sixteen empty ones.
     pub fn new() -> Tables
@@ -44,10 +53,11 @@ impl Tables {
     pub fn of(&self, level: u8) -> Table
         ensures { result ≡ slice_index_or self.now level empty_table }
     {
-        self.list
-            .get(usize::from(level))
-            .copied()
-            .unwrap_or(Table::new())
+        // A match: with `unwrap_or` an empty table would be made at every call.
+        match self.list.get(usize::from(level)) {
+            Some(table) => *table,
+            None => Table::new(),
+        }
     }
 
     // A transaction takes a place in the table of its level. By index: `get_mut` tells nothing of the other tables.
