@@ -1,4 +1,6 @@
 // A scheduler of an order, a placement and a shelf.
+ghost use Rattle.std.specs.Prelude.{◌≡◌, length};
+
 use tables::Tables;
 
 #[derive(Drop)]
@@ -11,4 +13,6 @@ pub struct Scheduler<O, P, S> {
     pub(crate) clock: u32,
     // A table for each level.
     pub(crate) tables: Tables,
+    // Said here too: what `Tables` keeps of itself, a caller of a scheduler would not see.
+    ghost sixteen: { length tables ≡ 16 },
 }
