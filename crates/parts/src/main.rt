@@ -5,7 +5,7 @@
 
 use image::lay_out_shelf;
 use shelves::{Drawer, Shelf};
-use showing::{print_damaged, print_drawer, print_image, print_parts, two_items};
+use showing::{print_damaged, print_edits, print_heading, print_image, print_parts, two_items};
 
 // A shelf laid out into new bytes; a refusal is printed with its number and offset.
 fn laid_out<S: Shelf>(rt: &HostRuntime, shelf: &S, length: usize) -> anyhow::Result<Vec<u8>> {
@@ -28,9 +28,10 @@ fn print_refused(rt: &HostRuntime, mut drawer: Drawer) -> anyhow::Result<()> {
 
 fn main(rt: HostRuntime) -> anyhow::Result<()> {
     print_parts(&rt)?;
+    print_heading(&rt)?;
     let mut drawer = two_items()?;
     let before = laid_out(&rt, &drawer, 396)?;
-    print_drawer(&rt, &mut drawer)?;
+    print_edits(&rt, &mut drawer)?;
     println!(rt; "An image laid out from the same drawer, edited alike.")?;
     print_image(&rt, before)?;
     println!(rt; "The edited drawer laid out, its first level damaged, and its last byte lost.")?;

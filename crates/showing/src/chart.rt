@@ -2,9 +2,9 @@
 ghost use Rattle.std.specs.Prelude.{◌≡◌, IfOk, string_bytes};
 ghost use Rattle.showing.specs.Charts.{mark, chart_row};
 
+use crate::fault::ShowFault;
 use orders::LevelOrder;
 use std::alloc::{AllocError, Global};
-use std::io;
 
 // An x where the row's level dominates the column's.
 fn mark<O: LevelOrder>(order: &O, row: u8, column: u8) -> &'static str
@@ -26,7 +26,10 @@ fn chart_row<O: LevelOrder>(heap: Global, order: &O, level: u8) -> Result<String
         .collect(heap)
 }
 
-pub fn print_chart<O: LevelOrder>(rt: &(impl Print + AllocGlobal), order: &O) -> io::Result<()> {
+pub fn print_chart<O: LevelOrder>(
+    rt: &(impl Print + AllocGlobal),
+    order: &O,
+) -> Result<(), ShowFault> {
     println!(rt; "Who reads whom: the row's level reads the column's where there is an x.")?;
     print!(rt; "   ")?;
     // An order is asked by the numbers of its levels; it has no list of them.

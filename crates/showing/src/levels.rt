@@ -1,11 +1,11 @@
 // The levels that the lines of the input make.
 use crate::chart::print_chart;
+use crate::fault::ShowFault;
 use crate::labels::take_label;
 use orders::WallsBuilder;
-use std::io;
 
 // Reads labels, a line each, and prints the answer to each line and the chart of the order of the labels taken.
-pub fn print_levels(rt: &(impl Input + Print + AllocGlobal)) -> io::Result<()> {
+pub fn print_levels(rt: &(impl Input + Print + AllocGlobal)) -> Result<(), ShowFault> {
     let mut builder = WallsBuilder::new();
     for line in rt.lines(rt.alloc()) {
         let line = line?;
@@ -18,7 +18,8 @@ pub fn print_levels(rt: &(impl Input + Print + AllocGlobal)) -> io::Result<()> {
         Ok(walls) => print_chart(rt, &walls),
         Err(refusal) => {
             let number = u8::from(refusal);
-            println!(rt; "no order, refused with {number}: no label was accepted")
+            println!(rt; "no order, refused with {number}: no label was accepted")?;
+            Ok(())
         }
     }
 }

@@ -5,6 +5,7 @@
 mod chart;
 mod damaged;
 mod degrees;
+mod fault;
 mod labels;
 mod levels;
 mod parts;
@@ -12,7 +13,8 @@ mod rows;
 mod samples;
 
 pub use damaged::print_damaged;
+pub use fault::ShowFault;
 pub use labels::{LabelFault, take_label};
 pub use parts::print_parts;
-pub use rows::{print_drawer, print_image};
+pub use rows::{print_drawer, print_edits, print_heading, print_image};
 pub use samples::two_items;

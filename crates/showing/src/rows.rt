@@ -53,7 +53,7 @@ fn pending(number: u32, stamp: u32, value: u64) -> Version
 }
 
 // The first row, the same edits on any shelf, and every row after them.
-fn print_edits<S: Shelf>(rt: &impl Print, shelf: &mut S) -> io::Result<()>
+pub fn print_edits<S: Shelf>(rt: &impl Print, shelf: &mut S) -> io::Result<()>
     ensures { IfOk result (λ _. S.Shelf.items shelf.new ≡ items_after_all (S.Shelf.items shelf.old) edits_shown) }
 {
     print_row(rt, shelf, 0)?;
@@ -82,11 +82,16 @@ fn print_edits<S: Shelf>(rt: &impl Print, shelf: &mut S) -> io::Result<()>
     Ok(())
 }
 
+// What stands above a drawer. By itself: a program may have work to do between it and the rows, which can fail.
+pub fn print_heading(rt: &impl Print) -> io::Result<()> {
+    println!(rt; "A drawer, each version as number@stamp=value, with a star while it is pending.")
+}
+
 // A drawer, edited.
 pub fn print_drawer(rt: &impl Print, drawer: &mut Drawer) -> io::Result<()>
     ensures { IfOk result (λ _. drawer_items drawer.new ≡ items_after_all (drawer_items drawer.old) edits_shown) }
 {
-    println!(rt; "A drawer, each version as number@stamp=value, with a star while it is pending.")?;
+    print_heading(rt)?;
     print_edits(rt, drawer)
 }
 
