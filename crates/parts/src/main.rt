@@ -18,11 +18,11 @@ fn laid_out<S: Shelf>(rt: &HostRuntime, shelf: &S, length: usize) -> anyhow::Res
     Ok(bytes)
 }
 
-fn print_refused(rt: &HostRuntime, mut drawer: Drawer) -> anyhow::Result<()> {
+fn print_refused(rt: &HostRuntime, drawer: &mut Drawer) -> anyhow::Result<()> {
     println!(rt; "The drawer laid out into a byte too many, and with an item at level 16.")?;
-    laid_out(rt, &drawer, 397)?;
+    laid_out(rt, drawer, 397)?;
     drawer.add(16, 1)?;
-    laid_out(rt, &drawer, 590)?;
+    laid_out(rt, drawer, 590)?;
     Ok(())
 }
 
@@ -36,5 +36,5 @@ fn main(rt: HostRuntime) -> anyhow::Result<()> {
     print_image(&rt, before)?;
     println!(rt; "The edited drawer laid out, its first level damaged, and its last byte lost.")?;
     print_damaged(&rt, laid_out(&rt, &drawer, 396)?)?;
-    print_refused(&rt, drawer)
+    print_refused(&rt, &mut drawer)
 }
