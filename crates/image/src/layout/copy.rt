@@ -28,7 +28,7 @@ impl<'a, S: Shelf> Rows for Copied<'a, S> {
     }
 
     fn places(&self, item: u32) -> [Version; 8] {
-        // A plain loop over the versions that there are: `array::from_fn` would ask for all eight, and took three times as long.
+        // A plain loop over the versions that there are: `array::from_fn` would ask for all eight.
         let used = self.shelf.versions(item);
         let mut places = [BLANK; 8];
         for place in 0..used {
