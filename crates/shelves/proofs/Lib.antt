@@ -1,2 +1,3 @@
 pub mod Ruled
 pub mod Stays
+pub mod Made

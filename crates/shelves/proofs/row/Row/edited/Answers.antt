@@ -1,23 +1,25 @@
-use Rattle.std.proofs.Common.{take, sym, ◌∙◌, ap₂, arith}
+use Rattle.std.proofs.Common.{◌≡◌, Bool, true, ◌≤◌, ◌&&◌, ℕ, List, take, None, Some, refl, sym, ap, ◌∙◌, arith}
+use Rattle.std.proofs.lemmas.Bool.{le-leb}
 use Rattle.shelves.specs.Rows.{keeps_rule}
-use Rattle.shelves.specs.Placed.{accepts_places}
+use Rattle.shelves.specs.RowEdits.{makes_row}
+use Rattle.shelves.specs.declared.version.Version.{Version}
+use Rattle.shelves.proofs.Made.{edited_by_made}
 use Rattle.shelves.proofs.row.Row.edited.Goals as goal
+
+-- whether places are a row, where no ninth is in use
+rule_alone : (vs : List Version) (n : ℕ) (b : Bool) → n ≤ 8 → b ≡ keeps_rule (take n vs) → makes_row vs n ≡ b
+rule_alone vs n b few is = ap (λ t. t && keeps_rule (take n vs)) (le-leb n 8 few) ∙ sym is
 
 pub returns-then-not-keeps_rule : goal.returns-then-not-keeps_rule
 returns-then-not-keeps_rule c =
-    let r = c.args.self.now in
-    accepts_places c.args.edit r.places r.count r.full r.few (sym c.if-not-fits.ensures) (omega (arith, c.count_after-count.ensures))
-    ∙ ap₂ (λ k vs. keeps_rule (take k vs)) (sym c.count_after-count.ensures) (sym c.places_after-places.ensures)
-    ∙ sym c.if-not-keeps_rule.ensures.value
+    let vs = c.places_after-places.result in
+    let n = c.count_after-count.result in
+    edited_by_made c.args.edit c.args.self.now (sym c.if-not-fits.ensures) vs c.places_after-places.ensures n c.count_after-count.ensures None
+    (rule_alone vs n _ (omega arith) c.if-not-keeps_rule.ensures.value)
 
 pub returns : goal.returns
 returns c =
-    let r = c.args.self.now in
-    record {
-      accepted =
-          accepts_places c.args.edit r.places r.count r.full r.few (sym c.if-not-fits.ensures) (omega (arith, c.count_after-count.ensures))
-          ∙ ap₂ (λ k vs. keeps_rule (take k vs)) (sym c.count_after-count.ensures) (sym c.places_after-places.ensures)
-          ∙ sym c.if-not-keeps_rule.ensures.value;
-      count = c.count_after-count.ensures;
-      places = c.places_after-places.ensures;
-    }
+    let vs = c.places_after-places.result in
+    let n = c.count_after-count.result in
+    edited_by_made c.args.edit c.args.self.now (sym c.if-not-fits.ensures) vs c.places_after-places.ensures n c.count_after-count.ensures (Some _)
+    (record { made = rule_alone vs n true (omega arith) c.if-not-keeps_rule.ensures.value; count = refl; places = refl })
